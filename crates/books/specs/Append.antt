@@ -1,0 +1,32 @@
+-- Append: what it answers and leaves. Assumes nothing.
+use Prim.Native.Nat.{ℕ}
+use mathlib.Core.Bool.{not}
+use mathlib.Core.List.{List, [], _∷_}
+use lib.ListN.{length}
+use lib.Dec.{eqb, ltb, leb}
+use Rattle.words.specs.Limits.{stepCodes, longestJournal}
+use Rattle.words.specs.Picture.{picture}
+use Rattle.words.specs.Journals.{appended, lastOf, stepsAt}
+use Rattle.books.specs.Sizes.{mostRows}
+use Rattle.books.specs.Numbers.{Refusal, first, wrongSize, damaged, wrongStep, noJournal, journalFull, rowsFull}
+use Rattle.books.specs.JournalBook.{journalsOf, journalBook}
+use Rattle.books.specs.RowBook.{rowBook}
+use Rattle.books.specs.Sound.{rightSizes, sound}
+use Rattle.books.specs.Clear.{After, leaves}
+
+-- Append: 1, 2, 3, 4, 5, 6.
+abbrev pub appendRefusals : List ℕ → List ℕ → ℕ → List Refusal
+appendRefusals jb rb s =
+    record { holds = not (rightSizes jb rb); number = wrongSize }
+    ∷ record { holds = not (sound jb rb); number = damaged }
+    ∷ record { holds = leb stepCodes s; number = wrongStep }
+    ∷ record { holds = eqb (length (journalsOf jb)) 0; number = noJournal }
+    ∷ record { holds = leb longestJournal (stepsAt (lastOf (journalsOf jb)) (journalsOf jb)); number = journalFull }
+    ∷ record { holds = ltb mostRows (length (picture (appended s (journalsOf jb)))); number = rowsFull }
+    ∷ []
+
+-- Append adds one step at the last journal's end.
+unfoldable pub appendCall : List ℕ → List ℕ → ℕ → After
+appendCall jb rb s =
+    let js : List (List ℕ) = appended s (journalsOf jb) in
+    leaves (first (appendRefusals jb rb s)) (journalBook js) (rowBook js) jb rb

@@ -1,0 +1,52 @@
+-- The journal book: 4,096 bytes, 16 records of 256. Assumes nothing.
+use Prim.Native.Nat.{ℕ, zero, suc, _-_, _*_}
+use mathlib.Core.Bool.{Bool, true, false, cond, not, _&&_, _||_}
+use mathlib.Core.List.{List, [], _∷_, _++_}
+use lib.ListN.{length, drop, getD, replicate}
+use lib.Dec.{eqb}
+use Rattle.words.specs.Limits.{longestJournal, mostJournals}
+use Rattle.books.specs.Sizes.{journalBookSize, journalRecordSize}
+use Rattle.books.specs.Bytes.{records, flat, allZero}
+use Rattle.books.specs.StepBytes.{stepsOf, stepsForm, stepBytes}
+
+-- Byte 0: 1 open, 0 not.
+abbrev pub isOpen : List ℕ → Bool
+isOpen r = eqb (getD r 0 0) 1
+
+-- Byte 1: length, 0 to 200. Bytes 2 to 201: the steps, zero beyond the length. Bytes 202 to 255: zero. A record that isn't open is all zero.
+abbrev pub recordForm : List ℕ → Bool
+recordForm r = cond (isOpen r) (stepsForm longestJournal (drop 1 r)) (allZero r)
+
+-- a record is wrong when its form is, or when it is open after one that isn't
+abbrev pub wrongRecord : Bool → List ℕ → Bool
+wrongRecord openBefore r = not (recordForm r) || (isOpen r && not openBefore)
+
+-- the first of the records that is wrong, or their number
+abbrev pub firstWrong : Bool → List (List ℕ) → ℕ
+firstWrong openBefore [] = zero
+firstWrong openBefore (r ∷ rs) = let rest = suc (firstWrong (isOpen r) rs) in cond (wrongRecord openBefore r) zero rest
+
+-- The open records are the first k: before the first record nothing is shut.
+unfoldable pub firstWrongRecord : List ℕ → ℕ
+firstWrongRecord b = firstWrong true (records journalRecordSize mostJournals b)
+
+-- the book has its form: its size, and no wrong record
+unfoldable pub journalForm : List ℕ → Bool
+journalForm b = eqb (length b) journalBookSize && eqb (firstWrongRecord b) mostJournals
+
+-- the journals of the records before the first that isn't open
+abbrev pub openOnes : List (List ℕ) → List (List ℕ)
+openOnes [] = []
+openOnes (r ∷ rs) = let rest = stepsOf (drop 1 r) ∷ openOnes rs in cond (isOpen r) rest []
+
+-- the journals of a book
+unfoldable pub journalsOf : List ℕ → List (List ℕ)
+journalsOf b = openOnes (records journalRecordSize mostJournals b)
+
+-- an open record's 256 bytes
+unfoldable pub journalRecord : List ℕ → List ℕ
+journalRecord j = 1 ∷ stepBytes (journalRecordSize - 2) j
+
+-- the book of the journals
+unfoldable pub journalBook : List (List ℕ) → List ℕ
+journalBook js = flat journalRecord js ++ replicate (journalRecordSize * (mostJournals - length js)) 0

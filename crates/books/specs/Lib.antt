@@ -1,0 +1,16 @@
+pub mod Sizes
+pub mod Numbers
+pub mod Bytes
+pub mod StepBytes
+pub mod JournalBook
+pub mod RowBook
+pub mod Sound
+pub mod WordRecord
+pub mod Clear
+pub mod Open
+pub mod Append
+pub mod TableCount
+pub mod JournalCount
+pub mod Check
+pub mod RowRecord
+pub mod Runs

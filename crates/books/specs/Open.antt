@@ -1,0 +1,27 @@
+-- Open: what it answers and leaves. Assumes nothing.
+use Prim.Native.Nat.{ℕ}
+use mathlib.Core.Bool.{not}
+use mathlib.Core.List.{List, [], _∷_}
+use lib.ListN.{length}
+use lib.Dec.{leb}
+use Rattle.words.specs.Limits.{mostJournals}
+use Rattle.words.specs.Journals.{opened}
+use Rattle.books.specs.Numbers.{Refusal, first, wrongSize, damaged, journalsFull}
+use Rattle.books.specs.JournalBook.{journalsOf, journalBook}
+use Rattle.books.specs.RowBook.{rowBook}
+use Rattle.books.specs.Sound.{rightSizes, sound}
+use Rattle.books.specs.Clear.{After, leaves}
+
+-- Open: 1, 2, 7.
+abbrev pub openRefusals : List ℕ → List ℕ → List Refusal
+openRefusals jb rb =
+    record { holds = not (rightSizes jb rb); number = wrongSize }
+    ∷ record { holds = not (sound jb rb); number = damaged }
+    ∷ record { holds = leb mostJournals (length (journalsOf jb)); number = journalsFull }
+    ∷ []
+
+-- Open adds an empty journal behind the others.
+unfoldable pub openCall : List ℕ → List ℕ → After
+openCall jb rb =
+    let js : List (List ℕ) = opened (journalsOf jb) in
+    leaves (first (openRefusals jb rb)) (journalBook js) (rowBook js) jb rb

@@ -1,0 +1,45 @@
+-- Runs of calls from cleared books. Assumes nothing.
+use Prim.Native.Nat.{ℕ}
+use mathlib.Core.List.{List, [], _∷_}
+use lib.ListN.{replicate}
+use Rattle.words.specs.Journals.{opened, appended}
+use Rattle.books.specs.Sizes.{journalBookSize, rowBookSize}
+use Rattle.books.specs.Numbers.{unless}
+use Rattle.books.specs.Clear.{After, clearCall}
+use Rattle.books.specs.Open.{openCall}
+use Rattle.books.specs.Append.{appendCall}
+
+-- the calls that the books are lent to write; every other call is lent them to read
+pub data Call : Type 0 where
+  clears : Call
+  opens : Call
+  appends : ℕ → Call
+
+-- what a call answers, and the books after it
+abbrev pub called : Call → List ℕ → List ℕ → After
+called clears jb rb = clearCall jb rb
+called opens jb rb = openCall jb rb
+called (appends s) jb rb = appendCall jb rb s
+
+-- what a call that is done means for the journals
+abbrev pub means : Call → List (List ℕ) → List (List ℕ)
+means clears js = []
+means opens js = opened js
+means (appends s) js = appended s js
+
+-- the books after a run of calls, and the journals opened and steps accepted since the last clearing:
+-- a call that answers 0 is taken, any other changes nothing
+pub record Ran : Type 0 where
+  pub journal-book : List ℕ
+  pub row-book : List ℕ
+  pub journals : List (List ℕ)
+
+abbrev pub runFrom : Ran → List Call → Ran
+runFrom r [] = r
+runFrom r (c ∷ cs) =
+    let a : After = called c (r .journal-book) (r .row-book) in
+    runFrom (record { journal-book = a .journals; row-book = a .rows; journals = unless (a .number) (means c (r .journals)) (r .journals) }) cs
+
+-- cleared books: every byte is zero, and there is no journal
+abbrev pub cleared : Ran
+cleared = record { journal-book = replicate journalBookSize 0; row-book = replicate rowBookSize 0; journals = [] }

@@ -1,0 +1,28 @@
+-- When books are sound. Assumes nothing.
+use Prim.Native.Nat.{ℕ, _≤_}
+use mathlib.Core.Path.{_≡_}
+use mathlib.Core.Bool.{Bool, not, _&&_}
+use mathlib.Core.List.{List}
+use lib.ListN.{length}
+use lib.Dec.{eqb, leb}
+use Rattle.words.specs.Words.{AreJournals}
+use Rattle.words.specs.Picture.{picture}
+use Rattle.books.specs.Sizes.{journalBookSize, rowBookSize, mostRows}
+use Rattle.books.specs.Bytes.{same}
+use Rattle.books.specs.JournalBook.{journalForm, journalsOf, journalBook}
+use Rattle.books.specs.RowBook.{rowBook}
+
+-- both books have their sizes
+abbrev pub rightSizes : List ℕ → List ℕ → Bool
+rightSizes jb rb = eqb (length jb) journalBookSize && eqb (length rb) rowBookSize
+
+-- Books are sound when the journal book has its form, its journals have at most 1,000 live states, and the row book is their picture.
+unfoldable pub sound : List ℕ → List ℕ → Bool
+sound jb rb = journalForm jb && (leb (length (picture (journalsOf jb))) mostRows && same rb (rowBook (journalsOf jb)))
+
+-- The same as a relation: these are the books of the journals js.
+pub record BooksOf (js : List (List ℕ)) (jb rb : List ℕ) : Type 0 where
+  pub journals : AreJournals js
+  pub fits : length (picture js) ≤ mostRows
+  pub journal-book : jb ≡ journalBook js
+  pub row-book : rb ≡ rowBook js

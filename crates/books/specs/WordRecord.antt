@@ -1,0 +1,17 @@
+-- The word record: 16 bytes, the length, 0 to 15, then the steps, zero beyond the length. A step above 15 makes its form wrong. Assumes nothing.
+use Prim.Native.Nat.{ℕ}
+use mathlib.Core.Bool.{Bool}
+use mathlib.Core.List.{List}
+use Rattle.books.specs.Sizes.{longestWord}
+use Rattle.books.specs.StepBytes.{stepsOf, stepsForm, stepBytes}
+
+abbrev pub wordForm : List ℕ → Bool
+wordForm r = stepsForm longestWord r
+
+-- the word of a record
+abbrev pub wordOf : List ℕ → List ℕ
+wordOf r = stepsOf r
+
+-- the record of a word
+abbrev pub wordRecord : List ℕ → List ℕ
+wordRecord w = stepBytes longestWord w

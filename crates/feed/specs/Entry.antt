@@ -1,0 +1,68 @@
+-- The loading program's entries: what one does to the books, or the number that it is refused with, and what a row of them does. Assumes nothing.
+use Prim.Native.Nat.{ℕ, zero, suc, _+_}
+use mathlib.Core.Bool.{Bool, true, false, cond, not, _&&_, _||_}
+use mathlib.Core.List.{List, [], _∷_}
+use lib.ListN.{length}
+use lib.Dec.{eqb, ltb, leb}
+use Rattle.words.specs.Limits.{stepCodes}
+use Rattle.books.specs.Numbers.{done, brokenEntry, unless}
+use Rattle.books.specs.JournalBook.{journalsOf}
+use Rattle.books.specs.Clear.{After}
+use Rattle.books.specs.Open.{openCall}
+use Rattle.books.specs.Append.{appendCall}
+
+-- the step that only opens
+abbrev pub onlyOpen : ℕ
+onlyOpen = 255
+
+-- what an entry asks for
+pub data Entry : Type 0 where
+  broken : Entry
+  appends : ℕ → Entry
+  opens : Entry
+  opens-and-appends : ℕ → Entry
+
+-- with k journals open, what the journal number n and the step s ask for:
+-- A number one below k appends to the last journal. The number k opens the next journal and appends, or, with step 255, only opens it.
+-- Any other number, a step from 16 to 254, or 255 for the journal already open is broken.
+unfoldable pub entryOf : ℕ → ℕ → ℕ → Entry
+entryOf k n s =
+    cond (eqb n k) (cond (ltb s stepCodes) (opens-and-appends s) (cond (eqb s onlyOpen) opens broken))
+    (cond (eqb (n + 1) k && ltb s stepCodes) (appends s) broken)
+
+-- An entry that opens and appends is taken whole or not at all: if its append is refused, the journal isn't opened.
+unfoldable pub openThenAppend : List ℕ → List ℕ → ℕ → After
+openThenAppend jb rb s =
+    let o : After = openCall jb rb in
+    let a : After = appendCall (o .journals) (o .rows) s in
+    let both : After = record { number = a .number; journals = unless (a .number) (a .journals) jb; rows = unless (a .number) (a .rows) rb } in
+    cond (eqb (o .number) done) both o
+
+unfoldable pub enter : Entry → List ℕ → List ℕ → After
+enter broken jb rb = record { number = brokenEntry; journals = jb; rows = rb }
+enter (appends s) jb rb = appendCall jb rb s
+enter opens jb rb = openCall jb rb
+enter (opens-and-appends s) jb rb = openThenAppend jb rb s
+
+-- one entry: a journal number and a step
+unfoldable pub entryCall : List ℕ → List ℕ → ℕ → ℕ → After
+entryCall jb rb n s = enter (entryOf (length (journalsOf jb)) n s) jb rb
+
+-- what a row of entries leaves: how many were taken, and the number of the refusal that ended it, or 0
+pub record Fed : Type 0 where
+  pub number : ℕ
+  pub taken : ℕ
+  pub journals : List ℕ
+  pub rows : List ℕ
+
+-- the entries of two bytes, one by one, up to the first that is refused; a lone last byte is refused with 11
+unfoldable pub feedFrom : ℕ → List ℕ → List ℕ → List ℕ → Fed
+feedFrom i jb rb [] = record { number = done; taken = i; journals = jb; rows = rb }
+feedFrom i jb rb (n ∷ []) = record { number = brokenEntry; taken = i; journals = jb; rows = rb }
+feedFrom i jb rb (n ∷ s ∷ rest) =
+    let a : After = entryCall jb rb n s in
+    let on : Fed = feedFrom (suc i) (a .journals) (a .rows) rest in
+    cond (eqb (a .number) done) on (record { number = a .number; taken = i; journals = jb; rows = rb })
+
+unfoldable pub feedCall : List ℕ → List ℕ → List ℕ → Fed
+feedCall jb rb entries = feedFrom 0 jb rb entries

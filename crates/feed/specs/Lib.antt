@@ -1,0 +1,4 @@
+pub mod Entry
+pub mod Ask
+pub mod Text
+pub mod Program

@@ -1,0 +1,74 @@
+-- The list call: what it answers and writes. Assumes nothing.
+use Prim.Native.Nat.{ℕ, _*_, _/_, _%_}
+use mathlib.Core.Bool.{Bool, false, cond, not, _&&_, _||_}
+use mathlib.Core.List.{List, [], _∷_, _++_}
+use lib.ListN.{length, take, drop}
+use lib.Dec.{eqb, ltb}
+use Rattle.words.specs.Words.{count}
+use Rattle.words.specs.Listing.{listOf, past}
+use Rattle.books.specs.Sizes.{wordRecordSize, longestWord}
+use Rattle.books.specs.Numbers.{Refusal, first, wrongSize, damaged, wrongLength, wrongQuorum, wrongWord, unless}
+use Rattle.books.specs.Bytes.{flat}
+use Rattle.books.specs.JournalBook.{journalsOf}
+use Rattle.books.specs.Sound.{rightSizes, sound}
+use Rattle.books.specs.WordRecord.{wordForm, wordOf, wordRecord}
+use Rattle.list.specs.declared.Listed.{Listed}
+
+-- the most bytes that an output may have
+abbrev pub largestOutput : ℕ
+largestOutput = 65536
+
+-- output: a multiple of 16, from 16 to 65,536
+abbrev pub wrongOutput : List ℕ → Bool
+wrongOutput out = not (eqb (length out % wordRecordSize) 0) || (ltb (length out) wordRecordSize || ltb largestOutput (length out))
+
+-- what the call is given: both books, a quorum, a length, "from the start" or "after this word", a word record and an output
+pub record Asked : Type 0 where
+  pub journals : List ℕ
+  pub rows : List ℕ
+  pub quorum : ℕ
+  pub length-limit : ℕ
+  pub after : Bool
+  pub word : List ℕ
+  pub out : List ℕ
+
+-- List: 1, 2, 9, 8, 10. The word record's size is always tested, its content only for "after".
+abbrev pub listRefusals : Asked → List Refusal
+listRefusals a =
+    record { holds = not (rightSizes (a .journals) (a .rows)) || (not (eqb (length (a .word)) wordRecordSize) || wrongOutput (a .out)); number = wrongSize }
+    ∷ record { holds = not (sound (a .journals) (a .rows)); number = damaged }
+    ∷ record { holds = ltb longestWord (a .length-limit); number = wrongLength }
+    ∷ record { holds = ltb (a .quorum) 1 || ltb (length (journalsOf (a .journals))) (a .quorum); number = wrongQuorum }
+    ∷ record { holds = a .after && (not (wordForm (a .word)) || ltb (a .length-limit) (length (wordOf (a .word)))); number = wrongWord }
+    ∷ []
+
+-- the whole list of the journals, by quorum and length
+abbrev pub wholeList : Asked → List (List ℕ)
+wholeList a = listOf (count (journalsOf (a .journals))) (a .quorum) (a .length-limit)
+
+-- the list from there on: from the start, or what stands after the word, which need not be in the list itself
+abbrev pub due : Asked → List (List ℕ)
+due a = cond (a .after) (past (wordOf (a .word)) (wholeList a)) (wholeList a)
+
+-- the first words from there on, as many as fit or as remain
+abbrev pub fitting : Asked → List (List ℕ)
+fitting a = take (length (a .out) / wordRecordSize) (due a)
+
+-- what is answered, and the output after it
+pub record Wrote : Type 0 where
+  pub answer : Listed
+  pub out : List ℕ
+
+-- one record each, every word in its own 16 bytes of the output; bytes after the last one stay
+abbrev pub written : List (List ℕ) → List ℕ → List ℕ
+written ws out = flat wordRecord ws ++ drop (wordRecordSize * length ws) out
+
+-- It answers how many it wrote and whether a further word remains. A refusal writes nothing and says "no".
+unfoldable pub listCall : Asked → Wrote
+listCall a =
+    let n : ℕ = first (listRefusals a) in
+    let ws : List (List ℕ) = fitting a in
+    record {
+      answer = record { number = n; written = unless n (length ws) 0; more = unless n (ltb (length ws) (length (due a))) false };
+      out = unless n (written ws (a .out)) (a .out);
+    }

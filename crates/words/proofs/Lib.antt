@@ -1,0 +1,9 @@
+pub mod Test
+pub mod Place
+pub mod Order
+pub mod Members
+pub mod Falls
+pub mod Closed
+pub mod Opening
+pub mod Dictionary
+pub mod Worked

@@ -1,0 +1,7 @@
+pub mod Limits
+pub mod Words
+pub mod Places
+pub mod Order
+pub mod Picture
+pub mod Journals
+pub mod Listing

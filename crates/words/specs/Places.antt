@@ -1,0 +1,52 @@
+-- The place of a word in a journal, and states. Assumes nothing.
+use Prim.Native.Nat.{ℕ, zero, suc}
+use mathlib.Core.Path.{_≡_}
+use mathlib.Core.Bool.{Bool, true, false, cond}
+use mathlib.Core.List.{List, [], _∷_}
+use lib.ListN.{drop}
+use lib.Dec.{eqb}
+use Rattle.words.specs.Limits.{lost}
+use Rattle.words.specs.Words.{IsWord}
+
+-- the place of the first s in l, whose own first step has the place p + 1: places count from 1
+abbrev pub find : ℕ → List ℕ → ℕ → ℕ
+find s [] p = lost
+find s (x ∷ l) p = cond (eqb x s) (suc p) (find s l (suc p))
+
+-- The least place above p whose step is s. It is lost if there is none, or if p is lost.
+abbrev pub next : List ℕ → ℕ → ℕ → ℕ
+next j p s = cond (eqb p lost) lost (find s (drop p j) p)
+
+-- the place that the steps of w lead to, one after the other, from the place p
+abbrev pub placeFrom : List ℕ → ℕ → List ℕ → ℕ
+placeFrom j p [] = p
+placeFrom j p (s ∷ w) = placeFrom j (next j p s) w
+
+-- The place of a word in a journal: 0 for the empty word.
+abbrev pub place : List ℕ → List ℕ → ℕ
+place j w = placeFrom j 0 w
+
+-- A state is the row of k places of some word.
+abbrev pub state : List (List ℕ) → List ℕ → List ℕ
+state [] w = []
+state (j ∷ js) w = place j w ∷ state js w
+
+-- the state reached by the step s
+abbrev pub step : List (List ℕ) → List ℕ → ℕ → List ℕ
+step [] ps s = []
+step (j ∷ js) [] s = []
+step (j ∷ js) (p ∷ ps) s = next j p s ∷ step js ps s
+
+-- It is live when at least one place isn't lost. With k = 0 there is no live state.
+abbrev pub live : List ℕ → Bool
+live [] = false
+live (p ∷ ps) = cond (eqb p lost) (live ps) true
+
+-- a is a live state of the journals
+abbrev pub LiveState : List (List ℕ) → List ℕ → Type 0
+LiveState js a = (live a ≡ true) × ((w : List ℕ) × IsWord w × (a ≡ state js w))
+
+-- how many places aren't lost: what a row's count says
+abbrev pub held : List ℕ → ℕ
+held [] = zero
+held (p ∷ ps) = cond (eqb p lost) (held ps) (suc (held ps))
