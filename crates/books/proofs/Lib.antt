@@ -1,0 +1,4 @@
+pub mod TableCounts
+pub mod Refusals
+pub mod OneOutcome
+pub mod Breaks

@@ -7,11 +7,11 @@ use lib.Dec.{eqb, ltb, leb}
 use Rattle.words.specs.Limits.{stepCodes, longestJournal}
 use Rattle.words.specs.Picture.{picture}
 use Rattle.words.specs.Journals.{appended, lastOf, stepsAt}
-use Rattle.books.specs.Sizes.{mostRows}
+use Rattle.records.specs.Sizes.{mostRows}
 use Rattle.books.specs.Numbers.{Refusal, first, wrongSize, damaged, wrongStep, noJournal, journalFull, rowsFull}
-use Rattle.books.specs.JournalBook.{journalsOf, journalBook}
-use Rattle.books.specs.RowBook.{rowBook}
-use Rattle.books.specs.Sound.{rightSizes, sound}
+use Rattle.records.specs.JournalBook.{journalsOf, journalBook}
+use Rattle.records.specs.RowBook.{rowBook}
+use Rattle.records.specs.Sound.{rightSizes, sound}
 use Rattle.books.specs.Clear.{After, leaves}
 
 -- Append: 1, 2, 3, 4, 5, 6.

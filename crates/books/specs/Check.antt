@@ -5,12 +5,12 @@ use mathlib.Core.List.{List}
 use lib.ListN.{length}
 use lib.Dec.{ltb}
 use Rattle.words.specs.Picture.{picture}
-use Rattle.books.specs.Sizes.{rowRecordSize, mostRows}
+use Rattle.records.specs.Sizes.{rowRecordSize, mostRows}
 use Rattle.books.specs.Numbers.{done, wrongSize, damaged}
-use Rattle.books.specs.Bytes.{same, differ}
-use Rattle.books.specs.JournalBook.{journalForm, journalsOf, firstWrongRecord}
-use Rattle.books.specs.RowBook.{rowBook}
-use Rattle.books.specs.Sound.{rightSizes}
+use Rattle.records.specs.Bytes.{same, differ}
+use Rattle.records.specs.JournalBook.{journalForm, journalsOf, firstWrongRecord}
+use Rattle.records.specs.RowBook.{rowBook}
+use Rattle.records.specs.Sound.{rightSizes}
 use Rattle.books.specs.declared.Checked.{Checked}
 
 abbrev pub checked : ℕ → ℕ → ℕ → ℕ → Checked

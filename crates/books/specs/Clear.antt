@@ -4,7 +4,7 @@ use mathlib.Core.Bool.{not}
 use mathlib.Core.List.{List, [], _∷_}
 use lib.ListN.{length, replicate}
 use Rattle.books.specs.Numbers.{Refusal, first, wrongSize, unless}
-use Rattle.books.specs.Sound.{rightSizes}
+use Rattle.records.specs.Sound.{rightSizes}
 
 -- what a call that may change the books answers, and the books after it
 pub record After : Type 0 where

@@ -5,10 +5,10 @@ use mathlib.Core.List.{List, [], _∷_}
 use lib.ListN.{length}
 use lib.Dec.{eqb}
 use Rattle.words.specs.Words.{count}
-use Rattle.books.specs.Sizes.{journalBookSize, wordRecordSize}
+use Rattle.records.specs.Sizes.{journalBookSize, wordRecordSize}
 use Rattle.books.specs.Numbers.{Refusal, first, wrongSize, damaged, wrongWord}
-use Rattle.books.specs.JournalBook.{journalForm, journalsOf}
-use Rattle.books.specs.WordRecord.{wordForm, wordOf}
+use Rattle.records.specs.JournalBook.{journalForm, journalsOf}
+use Rattle.records.specs.WordRecord.{wordForm, wordOf}
 use Rattle.books.specs.TableCount.{counted}
 use Rattle.books.specs.declared.Counted.{Counted}
 

@@ -1,11 +1,4 @@
-pub mod Sizes
 pub mod Numbers
-pub mod Bytes
-pub mod StepBytes
-pub mod JournalBook
-pub mod RowBook
-pub mod Sound
-pub mod WordRecord
 pub mod Clear
 pub mod Open
 pub mod Append

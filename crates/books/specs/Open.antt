@@ -7,9 +7,9 @@ use lib.Dec.{leb}
 use Rattle.words.specs.Limits.{mostJournals}
 use Rattle.words.specs.Journals.{opened}
 use Rattle.books.specs.Numbers.{Refusal, first, wrongSize, damaged, journalsFull}
-use Rattle.books.specs.JournalBook.{journalsOf, journalBook}
-use Rattle.books.specs.RowBook.{rowBook}
-use Rattle.books.specs.Sound.{rightSizes, sound}
+use Rattle.records.specs.JournalBook.{journalsOf, journalBook}
+use Rattle.records.specs.RowBook.{rowBook}
+use Rattle.records.specs.Sound.{rightSizes, sound}
 use Rattle.books.specs.Clear.{After, leaves}
 
 -- Open: 1, 2, 7.

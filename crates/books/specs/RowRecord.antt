@@ -4,7 +4,7 @@ use mathlib.Core.Bool.{not}
 use mathlib.Core.List.{List, [], _∷_}
 use lib.ListN.{length, take, drop}
 use lib.Dec.{eqb, leb}
-use Rattle.books.specs.Sizes.{rowBookSize, rowRecordSize, mostRows}
+use Rattle.records.specs.Sizes.{rowBookSize, rowRecordSize, mostRows}
 use Rattle.books.specs.Numbers.{Refusal, first, wrongSize, wrongRow, unless}
 
 -- Row record: 1, 13.

@@ -3,11 +3,11 @@ use Prim.Native.Nat.{ℕ}
 use mathlib.Core.List.{List, [], _∷_}
 use lib.ListN.{replicate}
 use Rattle.words.specs.Journals.{opened, appended}
-use Rattle.books.specs.Sizes.{journalBookSize, rowBookSize}
-use Rattle.books.specs.Numbers.{unless}
-use Rattle.books.specs.Clear.{After, clearCall}
-use Rattle.books.specs.Open.{openCall}
-use Rattle.books.specs.Append.{appendCall}
+use Rattle.records.specs.Sizes.{journalBookSize, rowBookSize}
+use Rattle.books.specs.Numbers.{Refusal, unless}
+use Rattle.books.specs.Clear.{After, clearRefusals, clearCall}
+use Rattle.books.specs.Open.{openRefusals, openCall}
+use Rattle.books.specs.Append.{appendRefusals, appendCall}
 
 -- the calls that the books are lent to write; every other call is lent them to read
 pub data Call : Type 0 where
@@ -20,6 +20,12 @@ abbrev pub called : Call → List ℕ → List ℕ → After
 called clears jb rb = clearCall jb rb
 called opens jb rb = openCall jb rb
 called (appends s) jb rb = appendCall jb rb s
+
+-- the conditions of its numbers, in their order
+abbrev pub refusals : Call → List ℕ → List ℕ → List Refusal
+refusals clears jb rb = clearRefusals jb rb
+refusals opens jb rb = openRefusals jb rb
+refusals (appends s) jb rb = appendRefusals jb rb s
 
 -- what a call that is done means for the journals
 abbrev pub means : Call → List (List ℕ) → List (List ℕ)

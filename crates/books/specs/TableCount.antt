@@ -5,10 +5,10 @@ use mathlib.Core.List.{List, [], _∷_}
 use lib.ListN.{length}
 use lib.Dec.{eqb, ltb, leb}
 use Rattle.words.specs.Limits.{stepCodes, mostJournals}
-use Rattle.books.specs.Sizes.{rowBookSize, mostRows}
+use Rattle.records.specs.Sizes.{rowBookSize, mostRows}
 use Rattle.books.specs.Numbers.{Refusal, first, wrongSize, damaged, wrongStep, unless}
-use Rattle.books.specs.Bytes.{allBelow}
-use Rattle.books.specs.RowBook.{countAt, arcAt}
+use Rattle.records.specs.Bytes.{allBelow}
+use Rattle.records.specs.RowBook.{countAt, arcAt}
 use Rattle.books.specs.declared.Counted.{Counted}
 
 -- a walk ends in a row, in no row, or in damage

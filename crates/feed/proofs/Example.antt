@@ -5,10 +5,10 @@ use mathlib.Core.List.{List, [], _∷_, _++_}
 use Rattle.words.specs.Picture.{picture}
 use Rattle.words.specs.Journals.{opened, appended}
 use Rattle.words.specs.Listing.{listOf}
-use Rattle.books.specs.StepBytes.{stepBytes}
-use Rattle.books.specs.JournalBook.{firstWrongRecord, journalForm, journalsOf, journalRecord, journalBook}
-use Rattle.books.specs.RowBook.{rowBook}
-use Rattle.books.specs.Sound.{sound}
+use Rattle.records.specs.StepBytes.{stepBytes}
+use Rattle.records.specs.JournalBook.{firstWrongRecord, journalForm, journalsOf, journalRecord, journalBook}
+use Rattle.records.specs.RowBook.{rowBook}
+use Rattle.records.specs.Sound.{sound}
 use Rattle.books.specs.Open.{openCall}
 use Rattle.books.specs.Append.{appendCall}
 use Rattle.feed.specs.Entry.{entryOf, openThenAppend, enter, entryCall, feedFrom, feedCall}

@@ -4,7 +4,7 @@ use mathlib.Core.Bool.{Bool, cond, not, _&&_, _||_}
 use mathlib.Core.List.{List, [], _∷_}
 use lib.ListN.{length, getD}
 use lib.Dec.{eqb, ltb}
-use Rattle.books.specs.Sizes.{longestWord}
+use Rattle.records.specs.Sizes.{longestWord}
 use Rattle.books.specs.Numbers.{Refusal, first, wrongQuorum, wrongLength, wrongAsk, unless}
 
 -- Empty or missing: quorum k, length 8.

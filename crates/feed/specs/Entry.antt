@@ -6,7 +6,7 @@ use lib.ListN.{length}
 use lib.Dec.{eqb, ltb, leb}
 use Rattle.words.specs.Limits.{stepCodes}
 use Rattle.books.specs.Numbers.{done, brokenEntry, unless}
-use Rattle.books.specs.JournalBook.{journalsOf}
+use Rattle.records.specs.JournalBook.{journalsOf}
 use Rattle.books.specs.Clear.{After}
 use Rattle.books.specs.Open.{openCall}
 use Rattle.books.specs.Append.{appendCall}

@@ -7,9 +7,9 @@ use lib.Dec.{eqb}
 use Rattle.words.specs.Words.{count}
 use Rattle.words.specs.Picture.{picture}
 use Rattle.words.specs.Listing.{listOf}
-use Rattle.books.specs.Sizes.{journalBookSize, rowBookSize}
+use Rattle.records.specs.Sizes.{journalBookSize, rowBookSize}
 use Rattle.books.specs.Numbers.{done}
-use Rattle.books.specs.JournalBook.{journalsOf}
+use Rattle.records.specs.JournalBook.{journalsOf}
 use Rattle.feed.specs.Entry.{Fed, feedCall}
 use Rattle.feed.specs.Ask.{Ask, askCall}
 use Rattle.feed.specs.Text.{firstLine, wordLine, lastLine, refusedEntryLine, refusedAskLine}

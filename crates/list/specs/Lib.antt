@@ -1,1 +1,2 @@
 pub mod ListCall
+pub mod Parts

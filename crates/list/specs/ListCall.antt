@@ -6,12 +6,12 @@ use lib.ListN.{length, take, drop}
 use lib.Dec.{eqb, ltb}
 use Rattle.words.specs.Words.{count}
 use Rattle.words.specs.Listing.{listOf, past}
-use Rattle.books.specs.Sizes.{wordRecordSize, longestWord}
+use Rattle.records.specs.Sizes.{wordRecordSize, longestWord}
 use Rattle.books.specs.Numbers.{Refusal, first, wrongSize, damaged, wrongLength, wrongQuorum, wrongWord, unless}
-use Rattle.books.specs.Bytes.{flat}
-use Rattle.books.specs.JournalBook.{journalsOf}
-use Rattle.books.specs.Sound.{rightSizes, sound}
-use Rattle.books.specs.WordRecord.{wordForm, wordOf, wordRecord}
+use Rattle.records.specs.Bytes.{flat}
+use Rattle.records.specs.JournalBook.{journalsOf}
+use Rattle.records.specs.Sound.{rightSizes, sound}
+use Rattle.records.specs.WordRecord.{wordForm, wordOf, wordRecord}
 use Rattle.list.specs.declared.Listed.{Listed}
 
 -- the most bytes that an output may have

@@ -113,9 +113,9 @@ module _ (count : List ℕ → ℕ) (q : ℕ) where
       after b t = let r = begins (t .0) b (t .2) in rw (r .1) (ap (λ (a : List ℕ). before a (u ++ t .0 ∷ r .0)) (sym (append-nil u)) ∙ before-front u [] (t .0 ∷ r .0))
 
   from-all : Falling count → (n : ℕ) (u v : List ℕ) → IsWord v → length v ≤ n → q ≤ count (u ++ v) → Mem (u ++ v) (listFrom count q n u)
-  from-all fall zero u [] k b c = rw (append-nil, le-leb q (count u) (rw append-nil at c)) (List·Memᴰ·head refl)
+  from-all fall zero u [] k b c = rw (append-nil u, le-leb q (count u) (rw append-nil at c)) (List·Memᴰ·head refl)
   from-all fall zero u (s ∷ v) k b c = absurd (omega arith)
-  from-all fall (suc n) u [] k b c = rw (append-nil, le-leb q (count u) (rw append-nil at c)) (List·Memᴰ·head refl)
+  from-all fall (suc n) u [] k b c = rw (append-nil u, le-leb q (count u) (rw append-nil at c)) (List·Memᴰ·head refl)
   from-all fall (suc n) u (s ∷ v) k b c =
       let d : q ≤ count u = omega (arith, fall u (s ∷ v)) in
       let m = from-all fall n (u ++ (s ∷ [])) v (k .1) (omega arith) (rw (append-snoc u s v) c) in

@@ -1,9 +1,12 @@
 pub mod Test
 pub mod Place
+pub mod Least
 pub mod Order
 pub mod Members
 pub mod Falls
+pub mod Rows
 pub mod Closed
 pub mod Opening
 pub mod Dictionary
+pub mod Past
 pub mod Worked

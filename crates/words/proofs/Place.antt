@@ -9,8 +9,8 @@ use lib.ListN.{length, drop, length-drop}
 use lib.Dec.{eqb}
 use borrow.Author.Tests.{eqb-true, eqb-false, ne-eqb, eq-eqb}
 use Rattle.words.specs.Limits.{lost}
-use Rattle.words.specs.Places.{find, next, placeFrom, place, state, held}
-use Rattle.words.specs.Words.{In, isIn, count}
+use Rattle.words.specs.Places.{find, next, placeFrom, place, state, live, held}
+use Rattle.words.specs.Words.{In, isIn, count, Counts, none-left, one-more, no-more, EachJournal}
 use Rattle.words.proofs.Test.{test}
 
 drop-tail : (j : List ℕ) (p x : ℕ) (l : List ℕ) → drop p j ≡ x ∷ l → drop (suc p) j ≡ l
@@ -119,6 +119,11 @@ abbrev pub Short : List (List ℕ) → Type 0
 Short [] = Unit {0}
 Short (j ∷ js) = (length j < lost) × Short js
 
+-- journals are that short
+pub short : (js : List (List ℕ)) → EachJournal js → Short js
+short [] h = tt
+short (j ∷ js) h = (omega arith, short js (h .1))
+
 -- a place is lost just where the word is not in
 lost-out : (j w : List ℕ) → length j < lost → eqb (place j w) lost ≡ not (isIn w j)
 lost-out j w h =
@@ -138,3 +143,34 @@ held-count [] w h = refl
 held-count (j ∷ js) w h =
     test (isIn w j) (λ t. rw (lost-out j w (h .0), t) (ap suc (held-count js w (h .1))))
     (λ f. rw (lost-out j w (h .0), f) (held-count js w (h .1)))
+
+-- a live state's count is at least 1
+pub live-held : (ps : List ℕ) → live ps ≡ true → 1 ≤ held ps
+live-held [] t = absurd (false≢true t)
+live-held (p ∷ ps) t = test (eqb p lost) (λ y. rw y (live-held ps (rw y at t))) (λ n. rw n (omega arith))
+
+-- the count of a state that isn't live is 0
+pub dead-held : (ps : List ℕ) → live ps ≡ false → held ps ≡ 0
+dead-held [] f = refl
+dead-held (p ∷ ps) f = test (eqb p lost) (λ y. rw y (dead-held ps (rw y at f))) (λ n. absurd (false≢true (sym (rw n at f))))
+
+-- a state's count is at most the number of its places
+pub held-most : (ps : List ℕ) → held ps ≤ length ps
+held-most [] = omega arith
+held-most (p ∷ ps) = test (eqb p lost) (λ y. rw y (omega (arith, held-most ps))) (λ n. rw n (omega (arith, held-most ps)))
+
+-- the count is the number of journals from which the word is left when some steps, or none, are struck out
+pub count-counts : (js : List (List ℕ)) (w : List ℕ) → Counts w js (count js w)
+count-counts [] w = none-left
+count-counts (j ∷ js) w =
+    test (isIn w j) (λ t. rw t (one-more (in-left w j t) (count-counts js w)))
+    (λ f. rw f (no-more (λ d. false≢true (sym f ∙ left-in w j d)) (count-counts js w)))
+
+-- and it is the only one
+pub counts-count : {w : List ℕ} {js : List (List ℕ)} {n : ℕ} → Counts w js n → n ≡ count js w
+counts-count none-left = refl
+counts-count {w} (one-more {j = j} d c) = rw (left-in w j d) (ap suc (counts-count c))
+counts-count {w} (no-more {j = j} n c) = rw (not-in-out w j n) (counts-count c)
+  where
+    not-in-out : (w j : List ℕ) → (In w j → ⊥) → isIn w j ≡ false
+    not-in-out w j n = test (isIn w j) (λ t. absurd (n (in-left w j t))) (λ f. f)

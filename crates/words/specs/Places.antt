@@ -1,9 +1,9 @@
 -- The place of a word in a journal, and states. Assumes nothing.
-use Prim.Native.Nat.{ℕ, zero, suc}
+use Prim.Native.Nat.{ℕ, zero, suc, _-_, _≤_, _<_}
 use mathlib.Core.Path.{_≡_}
 use mathlib.Core.Bool.{Bool, true, false, cond}
 use mathlib.Core.List.{List, [], _∷_}
-use lib.ListN.{drop}
+use lib.ListN.{length, drop, getD}
 use lib.Dec.{eqb}
 use Rattle.words.specs.Limits.{lost}
 use Rattle.words.specs.Words.{IsWord}
@@ -16,6 +16,13 @@ find s (x ∷ l) p = cond (eqb x s) (suc p) (find s l (suc p))
 -- The least place above p whose step is s. It is lost if there is none, or if p is lost.
 abbrev pub next : List ℕ → ℕ → ℕ → ℕ
 next j p s = cond (eqb p lost) lost (find s (drop p j) p)
+
+-- The same as a relation: r is the least place above p whose step is s.
+pub record Least (j : List ℕ) (p s r : ℕ) : Type 0 where
+  pub above : p < r
+  pub within : r ≤ length j
+  pub found : getD j (r - 1) 0 ≡ s
+  pub least : (i : ℕ) → p < i → i < r → getD j (i - 1) 0 ≡ s → ⊥
 
 -- the place that the steps of w lead to, one after the other, from the place p
 abbrev pub placeFrom : List ℕ → ℕ → List ℕ → ℕ

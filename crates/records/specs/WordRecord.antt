@@ -2,8 +2,8 @@
 use Prim.Native.Nat.{ℕ}
 use mathlib.Core.Bool.{Bool}
 use mathlib.Core.List.{List}
-use Rattle.books.specs.Sizes.{longestWord}
-use Rattle.books.specs.StepBytes.{stepsOf, stepsForm, stepBytes}
+use Rattle.records.specs.Sizes.{longestWord}
+use Rattle.records.specs.StepBytes.{stepsOf, stepsForm, stepBytes}
 
 abbrev pub wordForm : List ℕ → Bool
 wordForm r = stepsForm longestWord r

@@ -5,9 +5,9 @@ use mathlib.Core.List.{List, [], _∷_, _++_}
 use lib.ListN.{length, drop, getD, replicate}
 use lib.Dec.{eqb}
 use Rattle.words.specs.Limits.{longestJournal, mostJournals}
-use Rattle.books.specs.Sizes.{journalBookSize, journalRecordSize}
-use Rattle.books.specs.Bytes.{records, flat, allZero}
-use Rattle.books.specs.StepBytes.{stepsOf, stepsForm, stepBytes}
+use Rattle.records.specs.Sizes.{journalBookSize, journalRecordSize}
+use Rattle.records.specs.Bytes.{records, flat, allZero}
+use Rattle.records.specs.StepBytes.{stepsOf, stepsForm, stepBytes}
 
 -- Byte 0: 1 open, 0 not.
 abbrev pub isOpen : List ℕ → Bool

@@ -7,10 +7,10 @@ use lib.ListN.{length}
 use lib.Dec.{eqb, leb}
 use Rattle.words.specs.Words.{AreJournals}
 use Rattle.words.specs.Picture.{picture}
-use Rattle.books.specs.Sizes.{journalBookSize, rowBookSize, mostRows}
-use Rattle.books.specs.Bytes.{same}
-use Rattle.books.specs.JournalBook.{journalForm, journalsOf, journalBook}
-use Rattle.books.specs.RowBook.{rowBook}
+use Rattle.records.specs.Sizes.{journalBookSize, rowBookSize, mostRows}
+use Rattle.records.specs.Bytes.{same}
+use Rattle.records.specs.JournalBook.{journalForm, journalsOf, journalBook}
+use Rattle.records.specs.RowBook.{rowBook}
 
 -- both books have their sizes
 abbrev pub rightSizes : List ℕ → List ℕ → Bool

@@ -6,7 +6,7 @@ use mathlib.Core.List.{List, _∷_, _++_}
 use lib.ListN.{length, take, drop, getD, replicate}
 use lib.Dec.{leb}
 use Rattle.words.specs.Limits.{stepCodes}
-use Rattle.books.specs.Bytes.{allBelow, allZero}
+use Rattle.records.specs.Bytes.{allBelow, allZero}
 
 -- the steps that the bytes hold: a zero within the length is step 0
 abbrev pub stepsOf : List ℕ → List ℕ

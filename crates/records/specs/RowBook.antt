@@ -5,8 +5,8 @@ use lib.ListN.{length, replicate, getD}
 use Rattle.words.specs.Limits.{mostJournals}
 use Rattle.words.specs.Places.{held}
 use Rattle.words.specs.Picture.{picture, arcs, steps}
-use Rattle.books.specs.Sizes.{rowRecordSize, mostRows}
-use Rattle.books.specs.Bytes.{flat, twoBytes}
+use Rattle.records.specs.Sizes.{rowRecordSize, mostRows}
+use Rattle.records.specs.Bytes.{flat, twoBytes}
 
 -- bytes 0 to 15 the places, one byte each, 255 for lost, and 0 for a journal that isn't open
 abbrev pub placeBytes : List ℕ → List ℕ

@@ -1,0 +1,129 @@
+-- Fetched in parts, the parts joined are the list: a part is the front of what is due, what is due is an end of the
+-- whole list, and so what stands after the part's last word is what is left of it. Assumes nothing.
+use Prim.Native.Nat.{ℕ, _≤_, _<_, _/_, _%_}
+use native.Mathlib.Omega.{arith}
+use mathlib.Core.Path.{_≡_, refl, sym, ap, ap₂, _∙_}
+use mathlib.Core.Bool.{Bool, true, false, not, _||_, false≢true}
+use mathlib.Core.List.{List, [], _∷_, _++_, map, append-assoc, List·Memᴰ, List·Memᴰ·head, List·Memᴰ·tail, Memᴰ·append-left, Memᴰ·append-right}
+use lib.ListN.{length, drop, length-take, length-drop, take-append-drop}
+use lib.Seq.{take-at, drop-at, take-all, append-snoc}
+use lib.Dec.{eqb, ltb}
+use borrow.Author.Tests.{ltb-true, ltb-false}
+use Rattle.words.specs.Listing.{past}
+use Rattle.words.specs.Order.{Ascending}
+use Rattle.words.specs.Words.{count}
+use Rattle.words.proofs.Dictionary.{list-ascending, list-members}
+use Rattle.words.proofs.Falls.{count-falls}
+use Rattle.words.proofs.Past.{past-suffix, past-at}
+use Rattle.words.proofs.Test.{test}
+use Rattle.records.specs.Sizes.{wordRecordSize, longestWord}
+use Rattle.records.specs.Bytes.{records, flat}
+use Rattle.records.specs.JournalBook.{journalsOf}
+use Rattle.records.specs.Sound.{rightSizes, sound}
+use Rattle.records.specs.WordRecord.{wordOf, wordRecord}
+use Rattle.books.proofs.Refusals.{pass}
+use Rattle.records.proofs.StepBytes.{steps-back, step-bytes-length}
+use Rattle.list.specs.ListCall.{Asked, wrongOutput, wholeList, due, fitting, listCall}
+use Rattle.list.specs.Parts.{wordsIn, lastWord, goOn, Fetched, last-part, one-part}
+
+neither : (s t : Bool) → s || t ≡ false → (s ≡ false) × (t ≡ false)
+neither true t e = absurd (false≢true (sym e))
+neither false t e = (refl, e)
+
+-- how many records the output has room for
+abbrev room : Asked → ℕ
+room a = length (a .out) / wordRecordSize
+
+-- what a call that is done was given
+record Allowed (a : Asked) : Type 0 where
+  limit : a .length-limit ≤ longestWord
+  some-room : 1 ≤ room a
+
+allowed : (a : Asked) → listCall a .answer .number ≡ 0 → Allowed a
+unfolding listCall
+allowed a e =
+    let books : Bool = not (rightSizes (a .journals) (a .rows)) in
+    let word : Bool = not (eqb (length (a .word)) wordRecordSize) in
+    let p = pass (books || (word || wrongOutput (a .out))) 0 _ e in
+    let q = pass (not (sound (a .journals) (a .rows))) 1 _ (p .1) in
+    let r = pass (ltb longestWord (a .length-limit)) 8 _ (q .1) in
+    let o = neither word (wrongOutput (a .out)) (neither books _ (p .0) .1) .1 in
+    let s = neither (ltb (length (a .out)) wordRecordSize) _ (neither (not (eqb (length (a .out) % wordRecordSize) 0)) _ o .1) .0 in
+    record { limit = ltb-false _ _ (r .0); some-room = omega (arith, ltb-false (length (a .out)) wordRecordSize s) }
+
+whole-ascending : (a : Asked) → Ascending (wholeList a)
+whole-ascending a = list-ascending (count (journalsOf (a .journals))) (a .quorum) (a .length-limit)
+
+-- what is due is an end of the whole list
+due-suffix : (a : Asked) → (front : List (List ℕ)) × (wholeList a ≡ front ++ due a)
+due-suffix a = test (a .after) (λ t. rw t (past-suffix (wordOf (a .word)) (wholeList a) (whole-ascending a))) (λ f. rw f ([], refl))
+
+short : (a : Asked) → a .length-limit ≤ longestWord → (w : List ℕ) → List·Memᴰ w (fitting a) → length w ≤ longestWord
+short a h w m =
+    let js : List (List ℕ) = journalsOf (a .journals) in
+    let s = due-suffix a in
+    let d : List·Memᴰ w (due a) = rw (take-append-drop (room a) (due a)) at (Memᴰ·append-left (drop (room a) (due a)) m) in
+    let i : List·Memᴰ w (wholeList a) = rw (s .1) (Memᴰ·append-right (s .0) d) in
+    omega (arith, list-members (count js) (a .quorum) (count-falls js) (a .length-limit) w .0 i .short)
+
+-- records written read back as their words
+pub read-back : (ws : List (List ℕ)) (rest : List ℕ) → ((w : List ℕ) → List·Memᴰ w ws → length w ≤ longestWord)
+    → map wordOf (records wordRecordSize (length ws) (flat wordRecord ws ++ rest)) ≡ ws
+read-back [] rest h = refl
+read-back (w ∷ ws) rest h =
+    let e = step-bytes-length longestWord w (h w (List·Memᴰ·head refl)) in
+    let behind : List ℕ = flat wordRecord ws ++ rest in
+    rw (append-assoc (wordRecord w) (flat wordRecord ws) rest, take-at (wordRecord w) behind wordRecordSize e, drop-at (wordRecord w) behind wordRecordSize e)
+    (ap₂ (λ (v : List ℕ) (vs : List (List ℕ)). v ∷ vs) (steps-back longestWord w) (read-back ws rest (λ v m. h v (List·Memᴰ·tail m))))
+
+-- a part is as much of what is due as fits
+pub page : (a : Asked) → listCall a .answer .number ≡ 0 → wordsIn (listCall a) ≡ fitting a
+unfolding listCall
+page a e = rw e (read-back (fitting a) _ (short a (allowed a e .limit)))
+
+-- what "a further word remains" says
+remains : (a : Asked) (b : Bool) → listCall a .answer .number ≡ 0 → listCall a .answer .more ≡ b → ltb (length (fitting a)) (length (due a)) ≡ b
+unfolding listCall
+remains a b e m = rw e at m
+
+-- a part that leaves a word has one itself
+filled : (a : Asked) → listCall a .answer .number ≡ 0 → listCall a .answer .more ≡ true → 1 ≤ length (fitting a)
+filled a e m = omega (arith, allowed a e .some-room, length-take (room a) (due a), ltb-true (length (fitting a)) (length (due a)) (remains a true e m))
+
+last-split : (ws : List (List ℕ)) → 1 ≤ length ws → (front : List (List ℕ)) × (ws ≡ front ++ (lastWord ws ∷ []))
+last-split [] h = absurd (omega arith)
+last-split (w ∷ []) h = ([], refl)
+last-split (w ∷ v ∷ ws) h = let r = last-split (v ∷ ws) (omega arith) in (w ∷ r .0, ap (λ (l : List (List ℕ)). w ∷ l) (r .1))
+
+-- after the last word of a front of what is due comes what is left of it
+past-last : (a : Asked) (ws rest : List (List ℕ)) → ws ++ rest ≡ due a → 1 ≤ length ws → past (lastWord ws) (wholeList a) ≡ rest
+past-last a ws rest e h =
+    let s = due-suffix a in
+    let l = last-split ws h in
+    let x : List ℕ = lastWord ws in
+    let d : due a ≡ l .0 ++ x ∷ rest = sym e ∙ ap (λ (u : List (List ℕ)). u ++ rest) (l .1) ∙ append-snoc (l .0) x rest in
+    let whole : wholeList a ≡ s .0 ++ l .0 ++ x ∷ rest = s .1 ∙ ap (λ (u : List (List ℕ)). s .0 ++ u) d ∙ sym (append-assoc (s .0) (l .0) (x ∷ rest)) in
+    rw whole (past-at (s .0 ++ l .0) x rest (rw whole at (whole-ascending a)))
+
+-- the next part is asked for what is left
+next-due : (a : Asked) (out : List ℕ) → listCall a .answer .number ≡ 0 → listCall a .answer .more ≡ true
+    → due (goOn a (lastWord (wordsIn (listCall a))) out) ≡ drop (room a) (due a)
+next-due a out e m =
+    rw (page a e, steps-back longestWord (lastWord (fitting a)))
+    (past-last a (fitting a) (drop (room a) (due a)) (take-append-drop (room a) (due a)) (filled a e m))
+
+-- the parts joined are what was due
+pub parts-due : {a : Asked} {ws : List (List ℕ)} → Fetched a ws → ws ≡ due a
+parts-due (last-part {a} e m) =
+    page a e ∙ take-all (room a) (due a) (omega (arith, length-take (room a) (due a), ltb-false (length (fitting a)) (length (due a)) (remains a false e m)))
+parts-due (one-part {a} {out} e m f) =
+    ap₂ (λ (u v : List (List ℕ)). u ++ v) (page a e) (parts-due f ∙ next-due a out e m) ∙ take-append-drop (room a) (due a)
+
+-- fetched from the start, they are the whole list
+pub parts : {a : Asked} {ws : List (List ℕ)} → a .after ≡ false → Fetched a ws → ws ≡ wholeList a
+parts h f = rw h at (parts-due f)
+
+-- every part that leaves a word brings one, so fetching ends
+pub parts-end : (a : Asked) (out : List ℕ) → listCall a .answer .number ≡ 0 → listCall a .answer .more ≡ true
+    → length (due (goOn a (lastWord (wordsIn (listCall a))) out)) < length (due a)
+parts-end a out e m = rw (next-due a out e m) (omega (arith, filled a e m, length-take (room a) (due a), length-drop (room a) (due a)))

@@ -1,0 +1,300 @@
+-- The journal book and its journals give each other back, and a book of wrong form has its first wrong record, by induction over n records:
+-- behind an open record stands a book of journals, behind another only zeros. Assumes nothing.
+use Prim.Native.Nat.{ℕ, zero, suc, _+_, _-_, _*_, _≤_, _<_}
+use native.Mathlib.Omega.{arith}
+use mathlib.Core.Path.{_≡_, refl, sym, ap, ap₂, _∙_}
+use mathlib.Core.Logic.{_⊎_, inl, inr, _↔_, ⊎-elim}
+use mathlib.Core.Bool.{Bool, true, false, not, _&&_, _||_, false≢true}
+use mathlib.Core.List.{List, [], _∷_, _++_, append-assoc, List·Memᴰ, List·Memᴰ·not-nil, List·Memᴰ·cases-cons}
+use lib.ListN.{length, take, drop, replicate, length-append, length-replicate, length-drop, take-append-drop, replicate-append-replicate}
+use lib.Seq.{take-at, drop-at, length-take-le, drop-drop}
+use lib.Dec.{eqb}
+use borrow.Author.Tests.{eqb-true, eqb-false, eq-eqb}
+use Rattle.words.specs.Words.{IsJournal, EachJournal, AreJournals}
+use Rattle.words.proofs.Test.{test}
+use Rattle.records.specs.Bytes.{records, flat}
+use Rattle.records.specs.StepBytes.{stepsOf}
+use Rattle.records.specs.JournalBook.{isOpen, recordForm, wrongRecord, firstWrong, firstWrongRecord, journalForm, openOnes, journalsOf, journalRecord, journalBook}
+use Rattle.records.proofs.Flat.{Wide, length-flat}
+use Rattle.records.proofs.Tests.{both, zero-eq}
+use Rattle.records.proofs.StepBytes.{steps-back, step-bytes-form, step-bytes-length, form-steps}
+
+-- a record and what follows it
+front : (m n : ℕ) (r b : List ℕ) → length r ≡ m → records m (suc n) (r ++ b) ≡ r ∷ records m n b
+front m n r b l = rw (take-at r b m l, drop-at r b m l)
+
+-- an open record has 256 bytes
+record-length : (j : List ℕ) → length j ≤ 200 → length (journalRecord j) ≡ 256
+unfolding journalRecord
+record-length j h = omega (arith, step-bytes-length 254 j (omega arith))
+
+-- it is open
+record-open : (j : List ℕ) → isOpen (journalRecord j) ≡ true
+unfolding journalRecord
+record-open j = refl
+
+-- it holds its journal
+record-back : (j : List ℕ) → stepsOf (drop 1 (journalRecord j)) ≡ j
+unfolding journalRecord
+record-back j = steps-back 254 j
+
+-- it is right behind an open one
+record-right : (j : List ℕ) → IsJournal j → wrongRecord true (journalRecord j) ≡ false
+unfolding journalRecord
+record-right j k = rw (step-bytes-form 254 200 j (k .1) (k .0))
+
+-- a book of n records
+abbrev book : ℕ → List (List ℕ) → List ℕ
+book n js = flat journalRecord js ++ replicate (256 * (n - length js)) 0
+
+-- its first record, with a journal and with none
+book-open : (n : ℕ) (j : List ℕ) (js : List (List ℕ)) → book (suc n) (j ∷ js) ≡ journalRecord j ++ book n js
+book-open n j js =
+    let e : 256 * (suc n - suc (length js)) ≡ 256 * (n - length js) = omega arith in
+    rw (append-assoc, e)
+
+book-shut : (n : ℕ) → book (suc n) [] ≡ replicate 256 0 ++ book n []
+book-shut n =
+    let e : 256 * (suc n - 0) ≡ 256 + 256 * (n - 0) = omega arith in
+    ap (λ (k : ℕ). replicate k 0) e ∙ sym (replicate-append-replicate 256 (256 * (n - 0)) 0)
+
+-- the records of a book
+open-records : (n : ℕ) (j : List ℕ) (js : List (List ℕ)) → length j ≤ 200
+    → records 256 (suc n) (book (suc n) (j ∷ js)) ≡ journalRecord j ∷ records 256 n (book n js)
+open-records n j js h = ap (records 256 (suc n)) (book-open n j js) ∙ front 256 n (journalRecord j) (book n js) (record-length j h)
+
+shut-records : (n : ℕ) → records 256 (suc n) (book (suc n) []) ≡ replicate 256 0 ∷ records 256 n (book n [])
+shut-records n = ap (records 256 (suc n)) (book-shut n) ∙ front 256 n (replicate 256 0) (book n []) refl
+
+-- the journals of a book of n records
+open-ones : (n : ℕ) (js : List (List ℕ)) → length js ≤ n → EachJournal js → openOnes (records 256 n (book n js)) ≡ js
+open-ones zero [] h k = refl
+open-ones zero (j ∷ js) h k = absurd (omega arith)
+open-ones (suc n) [] h k = ap openOnes (shut-records n)
+open-ones (suc n) (j ∷ js) h k =
+    ap openOnes (open-records n j js (k .0 .0)) ∙ rw (record-open j, record-back j, open-ones n js (omega arith) (k .1))
+
+-- none of its records is wrong
+none-shut : (o : Bool) (n : ℕ) → firstWrong o (records 256 n (book n [])) ≡ n
+none-shut o zero = refl
+none-shut o (suc n) = ap (firstWrong o) (shut-records n) ∙ ap suc (none-shut false n)
+
+none-wrong : (n : ℕ) (js : List (List ℕ)) → length js ≤ n → EachJournal js → firstWrong true (records 256 n (book n js)) ≡ n
+none-wrong n [] h k = none-shut true n
+none-wrong zero (j ∷ js) h k = refl
+none-wrong (suc n) (j ∷ js) h k =
+    ap (firstWrong true) (open-records n j js (k .0 .0)) ∙ rw (record-right j (k .0), record-open j, none-wrong n js (omega arith) (k .1))
+
+-- b is the book of js in n records
+record BookIn (n : ℕ) (b : List ℕ) (js : List (List ℕ)) : Type 0 where
+  few : length js ≤ n
+  each : EachJournal js
+  is : b ≡ book n js
+
+-- what an open record of its form is
+open-record : (r : List ℕ) → length r ≡ 256 → isOpen r ≡ true → recordForm r ≡ true
+    → (r ≡ journalRecord (stepsOf (drop 1 r))) × IsJournal (stepsOf (drop 1 r))
+unfolding journalRecord
+open-record [] l o f = absurd (omega arith)
+open-record (x ∷ r) l o f =
+    let s = form-steps 254 200 r (omega arith) (omega arith) (rw o at f) in
+    (ap₂ (λ (y : ℕ) (c : List ℕ). y ∷ c) (eqb-true x 1 o) (s .0), (s .1, s .2))
+
+-- what another record of its form is
+shut-record : (r : List ℕ) → length r ≡ 256 → isOpen r ≡ false → recordForm r ≡ true → r ≡ replicate 256 0
+shut-record r l o f = zero-eq r (rw o at f) ∙ ap (λ (k : ℕ). replicate k 0) l
+
+-- a book with one more record before it
+add-open : (n : ℕ) (b j : List ℕ) (js : List (List ℕ)) → (take 256 b ≡ journalRecord j) × IsJournal j → BookIn n (drop 256 b) js
+    → BookIn (suc n) b (j ∷ js)
+add-open n b j js p i =
+    record {
+      few = omega (arith, i .few);
+      each = (p .1, i .each);
+      is = sym (take-append-drop 256 b) ∙ ap₂ (λ (x y : List ℕ). x ++ y) (p .0) (i .is) ∙ sym (book-open n j js);
+    }
+
+add-shut : (n : ℕ) (b : List ℕ) (js : List (List ℕ)) → take 256 b ≡ replicate 256 0 → js ≡ [] → BookIn n (drop 256 b) js → BookIn (suc n) b []
+add-shut n b js z e i =
+    record {
+      few = omega arith;
+      each = tt;
+      is = sym (take-append-drop 256 b) ∙ ap₂ (λ (x y : List ℕ). x ++ y) z (i .is ∙ ap (book n) e) ∙ sym (book-shut n);
+    }
+
+-- what a record that isn't wrong says: it has its form, and is open only behind an open one
+right : (f p o : Bool) → (not f || (p && not o)) ≡ false → (f ≡ true) × (p ≡ true → o ≡ true)
+right true true true w = (refl, λ e. refl)
+right true true false w = absurd (false≢true (sym w))
+right true false o w = (refl, λ e. absurd (false≢true e))
+right false p o w = absurd (false≢true (sym w))
+
+-- n records with none wrong are the book of their journals, and have none behind a record that isn't open
+form-in : (o : Bool) (n : ℕ) (b : List ℕ) → length b ≡ 256 * n → firstWrong o (records 256 n b) ≡ n
+    → BookIn n b (openOnes (records 256 n b)) × (o ≡ false → openOnes (records 256 n b) ≡ [])
+form-in o zero [] l w = (record { few = omega arith; each = tt; is = refl }, λ f. refl)
+form-in o zero (x ∷ b) l w = absurd (omega arith)
+form-in o (suc n) b l w =
+    test (wrongRecord o (take 256 b)) (λ t. absurd (none (rw t at w)))
+    (λ f. go (form-in (isOpen (take 256 b)) n (drop 256 b) (omega (arith, length-drop 256 b)) (less (rw f at w)))
+    (right (recordForm (take 256 b)) (isOpen (take 256 b)) o f))
+  where
+    none : 0 ≡ suc n → ⊥
+    none e = omega arith
+
+    less : {m : ℕ} → suc m ≡ suc n → m ≡ n
+    less e = omega arith
+
+    go : BookIn n (drop 256 b) (openOnes (records 256 n (drop 256 b))) × (isOpen (take 256 b) ≡ false → openOnes (records 256 n (drop 256 b)) ≡ [])
+        → (recordForm (take 256 b) ≡ true) × (isOpen (take 256 b) ≡ true → o ≡ true)
+        → BookIn (suc n) b (openOnes (records 256 (suc n) b)) × (o ≡ false → openOnes (records 256 (suc n) b) ≡ [])
+    go i f =
+        let e : length (take 256 b) ≡ 256 = length-take-le 256 b (omega arith) in
+        test (isOpen (take 256 b))
+        (λ p. rw p (add-open n b _ _ (open-record (take 256 b) e p (f .0)) (i .0), λ z. absurd (false≢true (sym z ∙ f .1 p))))
+        (λ p. rw p (add-shut n b _ (shut-record (take 256 b) e p (f .0)) (i .1 p) (i .0), λ z. refl))
+
+-- each journal takes one record
+each-wide : (js : List (List ℕ)) → EachJournal js → Wide journalRecord 256 js
+each-wide [] k j m = absurd (List·Memᴰ·not-nil m)
+each-wide (i ∷ js) k j m =
+    ⊎-elim (λ (e : j ≡ i). rw e (record-length i (k .0 .0))) (λ (n : List·Memᴰ j js). each-wide js (k .1) j n) (List·Memᴰ·cases-cons m)
+
+-- the journals of their book
+pub journals-back : (js : List (List ℕ)) → AreJournals js → journalsOf (journalBook js) ≡ js
+unfolding journalsOf journalBook
+journals-back js k = open-ones 16 js (k .few) (k .each)
+
+-- a book of journals has 4,096 bytes
+pub book-length : (js : List (List ℕ)) → AreJournals js → length (journalBook js) ≡ 4096
+unfolding journalBook
+book-length js k =
+    let n : ℕ = 256 * (16 - length js) in
+    omega (arith, k .few, length-append (flat journalRecord js) (replicate n 0), length-flat journalRecord 256 js (each-wide js (k .each)), length-replicate {A = ℕ} n 0)
+
+book-right : (js : List (List ℕ)) → AreJournals js → firstWrongRecord (journalBook js) ≡ 16
+unfolding firstWrongRecord journalBook
+book-right js k = none-wrong 16 js (k .few) (k .each)
+
+-- a book of journals has its form
+pub book-form : (js : List (List ℕ)) → AreJournals js → journalForm (journalBook js) ≡ true
+unfolding journalForm
+book-form js k =
+    rw (eq-eqb (length (journalBook js)) 4096 (book-length js k)) (eq-eqb (firstWrongRecord (journalBook js)) 16 (book-right js k))
+
+-- a book of the form is the book of its journals
+pub form-book : (b : List ℕ) → journalForm b ≡ true → AreJournals (journalsOf b) × (b ≡ journalBook (journalsOf b))
+unfolding journalForm firstWrongRecord journalsOf journalBook
+form-book b t =
+    let p = both (eqb (length b) 4096) (eqb (firstWrong true (records 256 16 b)) 16) t in
+    let i = form-in true 16 b (eqb-true (length b) 4096 (p .0)) (eqb-true (firstWrong true (records 256 16 b)) 16 (p .1)) in
+    (record { few = i .0 .few; each = i .0 .each }, i .0 .is)
+
+-- the form: exactly the books of journals have it
+pub form : (b : List ℕ) → (journalForm b ≡ true) ↔ ((js : List (List ℕ)) × AreJournals js × (b ≡ journalBook js))
+form b = (λ t. (journalsOf b, form-book b t .0, form-book b t .1), λ p. rw (p .2) (book-form (p .0) (p .1)))
+
+-- and a book has one row of journals
+pub form-unique : (b : List ℕ) (js ks : List (List ℕ)) → AreJournals js → AreJournals ks → b ≡ journalBook js → b ≡ journalBook ks → js ≡ ks
+form-unique b js ks k l p q = sym (journals-back js k) ∙ ap journalsOf (sym p ∙ q) ∙ journals-back ks l
+
+-- the bytes of record i
+abbrev pub rec : List ℕ → ℕ → List ℕ
+rec b i = take 256 (drop (256 * i) b)
+
+-- record i is wrong: its form is, or it is open while the record before it isn't
+abbrev pub Wrong : List ℕ → ℕ → Type 0
+Wrong b i = (recordForm (rec b i) ≡ false) ⊎ ((isOpen (rec b i) ≡ true) × ((k : ℕ) × (i ≡ suc k) × (isOpen (rec b k) ≡ false)))
+
+-- record n of the book is the first that is wrong
+pub record FirstWrong (b : List ℕ) (n : ℕ) : Type 0 where
+  pub within : n < 16
+  pub wrong : Wrong b n
+  pub earlier : (i : ℕ) → i < n → Wrong b i → ⊥
+
+-- whether the record before record i is open, and o before the first
+abbrev openBefore : Bool → List ℕ → ℕ → Bool
+openBefore o b zero = o
+openBefore o b (suc k) = isOpen (rec b k)
+
+-- the same test at each record
+abbrev wrongAt : Bool → List ℕ → ℕ → Bool
+wrongAt o b i = wrongRecord (openBefore o b i) (rec b i)
+
+rec-shift : (b : List ℕ) (i : ℕ) → rec b (suc i) ≡ rec (drop 256 b) i
+rec-shift b i =
+    let e : 256 * suc i ≡ 256 + 256 * i = omega arith in
+    ap (λ (k : ℕ). take 256 (drop k b)) e ∙ ap (take 256) (sym (drop-drop (256 * i) 256 b))
+
+wrong-shift : (o : Bool) (b : List ℕ) (i : ℕ) → wrongAt o b (suc i) ≡ wrongAt (isOpen (take 256 b)) (drop 256 b) i
+wrong-shift o b zero = ap (wrongRecord (isOpen (rec b 0))) (rec-shift b 0)
+wrong-shift o b (suc i) = ap₂ (λ (x y : List ℕ). wrongRecord (isOpen x) y) (rec-shift b i) (rec-shift b (suc i))
+
+first-within : (o : Bool) (n : ℕ) (b : List ℕ) → firstWrong o (records 256 n b) ≤ n
+first-within o zero b = omega arith
+first-within o (suc n) b =
+    test (wrongRecord o (take 256 b)) (λ t. rw t (omega arith)) (λ f. rw f (omega (arith, first-within (isOpen (take 256 b)) n (drop 256 b))))
+
+-- the first wrong of n records, by the test
+first-test : (o : Bool) (n : ℕ) (b : List ℕ) → firstWrong o (records 256 n b) < n
+    → (wrongAt o b (firstWrong o (records 256 n b)) ≡ true) × ((i : ℕ) → i < firstWrong o (records 256 n b) → wrongAt o b i ≡ false)
+first-test o zero b h = absurd (omega arith)
+first-test o (suc n) b h =
+    test (wrongRecord o (take 256 b)) (λ t. rw t (t, λ i l. absurd (omega arith)))
+    (λ f. rw f (later f (first-test (isOpen (take 256 b)) n (drop 256 b) (less (rw f at h)))))
+  where
+    less : {m : ℕ} → suc m < suc n → m < n
+    less l = omega arith
+
+    later : {m : ℕ} → wrongRecord o (take 256 b) ≡ false
+        → (wrongAt (isOpen (take 256 b)) (drop 256 b) m ≡ true) × ((i : ℕ) → i < m → wrongAt (isOpen (take 256 b)) (drop 256 b) i ≡ false)
+        → (wrongAt o b (suc m) ≡ true) × ((i : ℕ) → i < suc m → wrongAt o b i ≡ false)
+    later {m} f p = (wrong-shift o b m ∙ p .0, before)
+      where
+        before : (i : ℕ) → i < suc m → wrongAt o b i ≡ false
+        before zero l = f
+        before (suc i) l = wrong-shift o b i ∙ p .1 i (omega arith)
+
+-- what the test says
+fault : (f p o : Bool) → (not f || (p && not o)) ≡ true → (f ≡ false) ⊎ ((p ≡ true) × (o ≡ false))
+fault true true true w = absurd (false≢true w)
+fault true true false w = inr (refl, refl)
+fault true false o w = absurd (false≢true w)
+fault false p o w = inl refl
+
+shut-before : (b : List ℕ) (i : ℕ) → openBefore true b i ≡ false → (k : ℕ) × (i ≡ suc k) × (isOpen (rec b k) ≡ false)
+shut-before b zero e = absurd (false≢true (sym e))
+shut-before b (suc k) e = (k, refl, e)
+
+before-shut : (b : List ℕ) (i : ℕ) → (k : ℕ) × (i ≡ suc k) × (isOpen (rec b k) ≡ false) → openBefore true b i ≡ false
+before-shut b i p = rw (p .1) (p .2)
+
+is-wrong : (b : List ℕ) (i : ℕ) → wrongAt true b i ≡ true → Wrong b i
+is-wrong b i w = says (fault (recordForm (rec b i)) (isOpen (rec b i)) (openBefore true b i) w)
+  where
+    says : (recordForm (rec b i) ≡ false) ⊎ ((isOpen (rec b i) ≡ true) × (openBefore true b i ≡ false)) → Wrong b i
+    says (inl f) = inl f
+    says (inr p) = inr (p .0, shut-before b i (p .1))
+
+isnt-wrong : (b : List ℕ) (i : ℕ) → wrongAt true b i ≡ false → Wrong b i → ⊥
+isnt-wrong b i w (inl f) = false≢true (sym f ∙ right (recordForm (rec b i)) (isOpen (rec b i)) (openBefore true b i) w .0)
+isnt-wrong b i w (inr p) =
+    false≢true (sym (before-shut b i (p .1)) ∙ right (recordForm (rec b i)) (isOpen (rec b i)) (openBefore true b i) w .1 (p .0))
+
+first-most : (b : List ℕ) → firstWrongRecord b ≤ 16
+unfolding firstWrongRecord
+first-most b = first-within true 16 b
+
+first-tested : (b : List ℕ) → firstWrongRecord b < 16
+    → (wrongAt true b (firstWrongRecord b) ≡ true) × ((i : ℕ) → i < firstWrongRecord b → wrongAt true b i ≡ false)
+unfolding firstWrongRecord
+first-tested b h = first-test true 16 b h
+
+-- a book of the right size and wrong form: its first wrong record
+pub wrong-first : (b : List ℕ) → length b ≡ 4096 → journalForm b ≡ false → FirstWrong b (firstWrongRecord b)
+unfolding journalForm
+wrong-first b l t =
+    let n = eqb-false (firstWrongRecord b) 16 (rw (eq-eqb (length b) 4096 l) at t) in
+    let h : firstWrongRecord b < 16 = omega (arith, n, first-most b) in
+    let f = first-tested b h in
+    record { within = h; wrong = is-wrong b (firstWrongRecord b) (f .0); earlier = λ i m. isnt-wrong b i (f .1 i m) }

@@ -1,0 +1,5 @@
+pub mod Tests
+pub mod Flat
+pub mod StepBytes
+pub mod Form
+pub mod RowBytes
