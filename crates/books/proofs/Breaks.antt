@@ -5,21 +5,21 @@ use native.Mathlib.Omega.{arith}
 use mathlib.Core.Path.{_≡_, refl, sym, ap, _∙_}
 use mathlib.Core.List.{List, [], _∷_}
 use lib.ListN.{replicate, getD, drop}
-use Rattle.words.specs.Picture.{picture}
-use Rattle.words.specs.Journals.{opened, appended, lastOf, stepsAt}
-use Rattle.words.proofs.Worked.{two}
-use Rattle.records.specs.StepBytes.{stepBytes}
+use Rattle.books.specs.Append.{appendCall}
+use Rattle.books.specs.Check.{checkCall}
+use Rattle.books.specs.Clear.{After, clearCall}
+use Rattle.books.specs.JournalCount.{journalCountCall}
+use Rattle.books.specs.Open.{openCall}
+use Rattle.books.specs.RowRecord.{rowRecordNumberCall}
+use Rattle.books.specs.TableCount.{along, walkFrom, walk, tableCountCall}
 use Rattle.records.specs.JournalBook.{firstWrongRecord, journalForm, journalsOf, journalRecord, journalBook}
 use Rattle.records.specs.RowBook.{rowBook}
 use Rattle.records.specs.Sound.{sound}
+use Rattle.records.specs.StepBytes.{stepBytes}
 use Rattle.records.specs.WordRecord.{wordRecord}
-use Rattle.books.specs.Clear.{After, zeros, clearCall}
-use Rattle.books.specs.Open.{openCall}
-use Rattle.books.specs.Append.{appendCall}
-use Rattle.books.specs.TableCount.{along, walkFrom, walk, tableCountCall}
-use Rattle.books.specs.JournalCount.{journalCountCall}
-use Rattle.books.specs.Check.{checkCall}
-use Rattle.books.specs.RowRecord.{rowRecordNumberCall}
+use Rattle.words.specs.Journals.{appended, lastOf, stepsAt}
+use Rattle.words.specs.Picture.{picture}
+use Rattle.words.proofs.Worked.{two}
 use Rattle.books.specs.declared.Counted.{Counted}
 use Rattle.books.specs.declared.Checked.{Checked}
 

@@ -1,4 +1,7 @@
 pub mod TableCounts
+pub mod Counts
 pub mod Refusals
 pub mod OneOutcome
+pub mod Checks
+pub mod Runs
 pub mod Breaks

@@ -3,13 +3,13 @@
 use Prim.Native.Nat.{ℕ}
 use mathlib.Core.Path.{_≡_, sym, _∙_}
 use mathlib.Core.List.{List}
-use Rattle.books.specs.Clear.{clearCall}
-use Rattle.books.specs.Open.{openCall}
 use Rattle.books.specs.Append.{appendCall}
-use Rattle.books.specs.TableCount.{tableCountCall}
-use Rattle.books.specs.JournalCount.{journalCountCall}
 use Rattle.books.specs.Check.{checkCall}
+use Rattle.books.specs.Clear.{clearCall}
+use Rattle.books.specs.JournalCount.{journalCountCall}
+use Rattle.books.specs.Open.{openCall}
 use Rattle.books.specs.RowRecord.{rowRecordCall, rowRecordNumberCall}
+use Rattle.books.specs.TableCount.{tableCountCall}
 
 -- two outcomes that keep the promise are equal
 abbrev pub OneOutcome : {A : Type 0} → A → Type 0

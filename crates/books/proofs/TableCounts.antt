@@ -8,19 +8,18 @@ use mathlib.Core.List.{List, [], _∷_, _++_, append-nil, List·Memᴰ}
 use lib.ListN.{length}
 use lib.Seq.{append-snoc}
 use borrow.Author.Tests.{eq-eqb, ne-eqb, lt-leb, le-ltb, lt-ltb}
+use Rattle.books.specs.TableCount.{Walk, at-row, no-row, along, walkFrom, walk, counted, tableCountCall}
+use Rattle.records.specs.RowBook.{rowBook, countAt}
 use Rattle.words.specs.Picture.{rowOf, picture}
 use Rattle.words.specs.Places.{state, step, live}
 use Rattle.words.specs.Words.{IsWord, AreJournals, count}
+use Rattle.records.proofs.RowBytes.{length-book, count-byte, arc-bytes}
+use Rattle.records.proofs.Tests.{word-below}
 use Rattle.words.proofs.Falls.{dead-stays}
 use Rattle.words.proofs.Members.{state-snoc, picture-members, picture-ascending}
 use Rattle.words.proofs.Place.{Short, short, held-count, live-held, dead-held, held-most}
 use Rattle.words.proofs.Rows.{row-is, row-width, step-row, arc-after, start-mem, start-zero}
 use Rattle.words.proofs.Test.{test}
-use Rattle.records.specs.Bytes.{allBelow}
-use Rattle.records.specs.RowBook.{rowBook, countAt}
-use Rattle.books.specs.TableCount.{Walk, at-row, no-row, along, walkFrom, walk, counted, tableCountCall}
-use Rattle.records.proofs.Tests.{word-below}
-use Rattle.records.proofs.RowBytes.{length-book, count-byte, arc-bytes}
 
 -- an arc is taken that rises, is a row's number, and ends at a count of 1 to 16
 along-on : (b : List ℕ) (r t : ℕ) (rest : Walk) → r < t → t < 1000 → 1 ≤ countAt b t → countAt b t ≤ 16 → along b r t rest ≡ rest

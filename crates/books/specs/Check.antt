@@ -1,16 +1,17 @@
 -- Check: what it answers. Assumes nothing.
-use Prim.Native.Nat.{ℕ, _/_, _%_}
-use mathlib.Core.Bool.{cond, not}
+use Prim.Native.Nat.{ℕ, _+_, _*_, _/_, _%_, _≤_, _<_}
+use mathlib.Core.Path.{_≡_}
+use mathlib.Core.Bool.{true, false, cond, not}
 use mathlib.Core.List.{List}
 use lib.ListN.{length}
 use lib.Dec.{ltb}
 use Rattle.words.specs.Picture.{picture}
 use Rattle.records.specs.Sizes.{rowRecordSize, mostRows}
 use Rattle.books.specs.Numbers.{done, wrongSize, damaged}
-use Rattle.records.specs.Bytes.{same, differ}
-use Rattle.records.specs.JournalBook.{journalForm, journalsOf, firstWrongRecord}
+use Rattle.records.specs.Bytes.{same, differ, First}
+use Rattle.records.specs.JournalBook.{journalForm, journalsOf, firstWrongRecord, FirstWrong}
 use Rattle.records.specs.RowBook.{rowBook}
-use Rattle.records.specs.Sound.{rightSizes}
+use Rattle.records.specs.Sound.{rightSizes, sound}
 use Rattle.books.specs.declared.Checked.{Checked}
 
 abbrev pub checked : ℕ → ℕ → ℕ → ℕ → Checked
@@ -28,3 +29,15 @@ checkCall jb rb =
     (cond (not (journalForm jb)) (checked damaged 1 (firstWrongRecord jb) 0)
     (cond (ltb mostRows (length (picture (journalsOf jb)))) (checked damaged 2 mostRows 0)
     (cond (same rb (rowBook (journalsOf jb))) (checked done 0 0 0) (firstDifference rb (rowBook (journalsOf jb))))))
+
+-- The same as a relation: where document 01 says that the books are wrong.
+pub data Verdict (jb rb : List ℕ) : Checked → Type 0 where
+  wrong-sizes : rightSizes jb rb ≡ false → Verdict jb rb (checked wrongSize 0 0 0)
+  -- the first journal record of wrong form, or open after one that isn't
+  book-one : {r : ℕ} → rightSizes jb rb ≡ true → FirstWrong jb r → Verdict jb rb (checked damaged 1 r 0)
+  -- more than 1,000 live states
+  too-many : rightSizes jb rb ≡ true → journalForm jb ≡ true → mostRows < length (picture (journalsOf jb)) → Verdict jb rb (checked damaged 2 mostRows 0)
+  -- the first row, and in it the first byte, that differs from the picture
+  book-two : {r i : ℕ} → rightSizes jb rb ≡ true → journalForm jb ≡ true → length (picture (journalsOf jb)) ≤ mostRows
+      → i < rowRecordSize → First rb (rowBook (journalsOf jb)) (rowRecordSize * r + i) → Verdict jb rb (checked damaged 2 r i)
+  all-right : sound jb rb ≡ true → Verdict jb rb (checked done 0 0 0)

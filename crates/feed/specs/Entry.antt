@@ -18,17 +18,17 @@ onlyOpen = 255
 -- what an entry asks for
 pub data Entry : Type 0 where
   broken : Entry
-  appends : ℕ → Entry
-  opens : Entry
-  opens-and-appends : ℕ → Entry
+  append-entry : ℕ → Entry
+  open-entry : Entry
+  open-append-entry : ℕ → Entry
 
 -- with k journals open, what the journal number n and the step s ask for:
 -- A number one below k appends to the last journal. The number k opens the next journal and appends, or, with step 255, only opens it.
 -- Any other number, a step from 16 to 254, or 255 for the journal already open is broken.
 unfoldable pub entryOf : ℕ → ℕ → ℕ → Entry
 entryOf k n s =
-    cond (eqb n k) (cond (ltb s stepCodes) (opens-and-appends s) (cond (eqb s onlyOpen) opens broken))
-    (cond (eqb (n + 1) k && ltb s stepCodes) (appends s) broken)
+    cond (eqb n k) (cond (ltb s stepCodes) (open-append-entry s) (cond (eqb s onlyOpen) open-entry broken))
+    (cond (eqb (n + 1) k && ltb s stepCodes) (append-entry s) broken)
 
 -- An entry that opens and appends is taken whole or not at all: if its append is refused, the journal isn't opened.
 unfoldable pub openThenAppend : List ℕ → List ℕ → ℕ → After
@@ -40,9 +40,9 @@ openThenAppend jb rb s =
 
 unfoldable pub enter : Entry → List ℕ → List ℕ → After
 enter broken jb rb = record { number = brokenEntry; journals = jb; rows = rb }
-enter (appends s) jb rb = appendCall jb rb s
-enter opens jb rb = openCall jb rb
-enter (opens-and-appends s) jb rb = openThenAppend jb rb s
+enter (append-entry s) jb rb = appendCall jb rb s
+enter open-entry jb rb = openCall jb rb
+enter (open-append-entry s) jb rb = openThenAppend jb rb s
 
 -- one entry: a journal number and a step
 unfoldable pub entryCall : List ℕ → List ℕ → ℕ → ℕ → After

@@ -6,16 +6,16 @@ use mathlib.Core.Path.{_≡_, refl, sym, ap, _∙_}
 use mathlib.Core.Bool.{false}
 use mathlib.Core.List.{List, [], _∷_, List·Memᴰ, List·Memᴰ·head, List·Memᴰ·tail, cons≢nil}
 use lib.ListN.{replicate, getD}
-use Rattle.words.specs.Picture.{picture}
-use Rattle.words.specs.Listing.{listOf}
-use Rattle.words.proofs.Worked.{two}
-use Rattle.records.specs.StepBytes.{stepBytes}
+use Rattle.list.specs.ListCall.{Asked, Wrote, listCall}
+use Rattle.list.specs.Parts.{wordsIn}
 use Rattle.records.specs.JournalBook.{firstWrongRecord, journalForm, journalsOf, journalRecord, journalBook}
 use Rattle.records.specs.RowBook.{rowBook}
 use Rattle.records.specs.Sound.{sound}
+use Rattle.records.specs.StepBytes.{stepBytes}
 use Rattle.records.specs.WordRecord.{wordRecord}
-use Rattle.list.specs.ListCall.{Asked, Wrote, listCall}
-use Rattle.list.specs.Parts.{wordsIn}
+use Rattle.words.specs.Listing.{listOf}
+use Rattle.words.specs.Picture.{picture}
+use Rattle.words.proofs.Worked.{two}
 
 -- quorum 2, length 1, from the start, into four records of other bytes
 abbrev asked : Asked

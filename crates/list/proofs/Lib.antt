@@ -1,3 +1,4 @@
+pub mod Complete
 pub mod Parts
 pub mod Numbers
 pub mod Breaks

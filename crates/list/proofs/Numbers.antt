@@ -3,9 +3,9 @@ use Prim.Native.Nat.{ℕ}
 use mathlib.Core.Path.{_≡_}
 use mathlib.Core.Bool.{false}
 use Rattle.books.specs.Numbers.{Given}
-use Rattle.books.proofs.Refusals.{first-given, refused}
+use Rattle.list.specs.ListCall.{Asked, listRefusals, listCall}
 use Rattle.books.proofs.OneOutcome.{OneOutcome, one-outcome}
-use Rattle.list.specs.ListCall.{Asked, listRefusals, Wrote, listCall}
+use Rattle.books.proofs.Refusals.{first-given, refused}
 
 -- each number exactly under its condition and no earlier one
 pub list-numbers : (a : Asked) → Given (listRefusals a) (listCall a .answer .number)

@@ -1,6 +1,6 @@
 -- Fetched in parts, the parts joined are the list: a part is the front of what is due, what is due is an end of the
 -- whole list, and so what stands after the part's last word is what is left of it. Assumes nothing.
-use Prim.Native.Nat.{ℕ, _≤_, _<_, _/_, _%_}
+use Prim.Native.Nat.{ℕ, zero, suc, _≤_, _<_, _/_, _%_}
 use native.Mathlib.Omega.{arith}
 use mathlib.Core.Path.{_≡_, refl, sym, ap, ap₂, _∙_}
 use mathlib.Core.Bool.{Bool, true, false, not, _||_, false≢true}
@@ -8,23 +8,21 @@ use mathlib.Core.List.{List, [], _∷_, _++_, map, append-assoc, List·Memᴰ, L
 use lib.ListN.{length, drop, length-take, length-drop, take-append-drop}
 use lib.Seq.{take-at, drop-at, take-all, append-snoc}
 use lib.Dec.{eqb, ltb}
-use borrow.Author.Tests.{ltb-true, ltb-false}
-use Rattle.words.specs.Listing.{past}
-use Rattle.words.specs.Order.{Ascending}
-use Rattle.words.specs.Words.{count}
-use Rattle.words.proofs.Dictionary.{list-ascending, list-members}
-use Rattle.words.proofs.Falls.{count-falls}
-use Rattle.words.proofs.Past.{past-suffix, past-at}
-use Rattle.words.proofs.Test.{test}
-use Rattle.records.specs.Sizes.{wordRecordSize, longestWord}
-use Rattle.records.specs.Bytes.{records, flat}
-use Rattle.records.specs.JournalBook.{journalsOf}
-use Rattle.records.specs.Sound.{rightSizes, sound}
-use Rattle.records.specs.WordRecord.{wordOf, wordRecord}
-use Rattle.books.proofs.Refusals.{pass}
-use Rattle.records.proofs.StepBytes.{steps-back, step-bytes-length}
+use borrow.Author.Tests.{ltb-true, ltb-false, le-ltb, eq-eqb, not-false}
 use Rattle.list.specs.ListCall.{Asked, wrongOutput, wholeList, due, fitting, listCall}
 use Rattle.list.specs.Parts.{wordsIn, lastWord, goOn, Fetched, last-part, one-part}
+use Rattle.records.specs.Bytes.{records, flat}
+use Rattle.records.specs.JournalBook.{journalsOf}
+use Rattle.records.specs.Sizes.{wordRecordSize, longestWord}
+use Rattle.records.specs.Sound.{rightSizes, sound}
+use Rattle.records.specs.WordRecord.{wordOf, wordRecord}
+use Rattle.words.specs.Listing.{past}
+use Rattle.words.specs.Words.{IsWord}
+use Rattle.books.proofs.Refusals.{pass}
+use Rattle.list.proofs.Complete.{Admitted, list-complete, list-in-order}
+use Rattle.records.proofs.StepBytes.{steps-back, step-bytes-length, step-bytes-form}
+use Rattle.words.proofs.Past.{past-suffix, past-at}
+use Rattle.words.proofs.Test.{test}
 
 neither : (s t : Bool) → s || t ≡ false → (s ≡ false) × (t ≡ false)
 neither true t e = absurd (false≢true (sym e))
@@ -36,7 +34,10 @@ room a = length (a .out) / wordRecordSize
 
 -- what a call that is done was given
 record Allowed (a : Asked) : Type 0 where
+  sizes : rightSizes (a .journals) (a .rows) ≡ true
+  right : sound (a .journals) (a .rows) ≡ true
   limit : a .length-limit ≤ longestWord
+  quorum : (ltb (a .quorum) 1 || ltb (length (journalsOf (a .journals))) (a .quorum)) ≡ false
   some-room : 1 ≤ room a
 
 allowed : (a : Asked) → listCall a .answer .number ≡ 0 → Allowed a
@@ -47,24 +48,27 @@ allowed a e =
     let p = pass (books || (word || wrongOutput (a .out))) 0 _ e in
     let q = pass (not (sound (a .journals) (a .rows))) 1 _ (p .1) in
     let r = pass (ltb longestWord (a .length-limit)) 8 _ (q .1) in
+    let k = pass (ltb (a .quorum) 1 || ltb (length (journalsOf (a .journals))) (a .quorum)) 7 _ (r .1) in
     let o = neither word (wrongOutput (a .out)) (neither books _ (p .0) .1) .1 in
     let s = neither (ltb (length (a .out)) wordRecordSize) _ (neither (not (eqb (length (a .out) % wordRecordSize) 0)) _ o .1) .0 in
-    record { limit = ltb-false _ _ (r .0); some-room = omega (arith, ltb-false (length (a .out)) wordRecordSize s) }
-
-whole-ascending : (a : Asked) → Ascending (wholeList a)
-whole-ascending a = list-ascending (count (journalsOf (a .journals))) (a .quorum) (a .length-limit)
+    record {
+      sizes = not-false _ (neither books _ (p .0) .0);
+      right = not-false _ (q .0);
+      limit = ltb-false _ _ (r .0);
+      quorum = k .0;
+      some-room = omega (arith, ltb-false (length (a .out)) wordRecordSize s);
+    }
 
 -- what is due is an end of the whole list
 due-suffix : (a : Asked) → (front : List (List ℕ)) × (wholeList a ≡ front ++ due a)
-due-suffix a = test (a .after) (λ t. rw t (past-suffix (wordOf (a .word)) (wholeList a) (whole-ascending a))) (λ f. rw f ([], refl))
+due-suffix a = test (a .after) (λ t. rw t (past-suffix (wordOf (a .word)) (wholeList a) (list-in-order a))) (λ f. rw f ([], refl))
 
-short : (a : Asked) → a .length-limit ≤ longestWord → (w : List ℕ) → List·Memᴰ w (fitting a) → length w ≤ longestWord
-short a h w m =
-    let js : List (List ℕ) = journalsOf (a .journals) in
+-- each word of a part belongs in the list
+listed : (a : Asked) (w : List ℕ) → List·Memᴰ w (fitting a) → Admitted a w
+listed a w m =
     let s = due-suffix a in
     let d : List·Memᴰ w (due a) = rw (take-append-drop (room a) (due a)) at (Memᴰ·append-left (drop (room a) (due a)) m) in
-    let i : List·Memᴰ w (wholeList a) = rw (s .1) (Memᴰ·append-right (s .0) d) in
-    omega (arith, list-members (count js) (a .quorum) (count-falls js) (a .length-limit) w .0 i .short)
+    list-complete a w .0 (rw (s .1) (Memᴰ·append-right (s .0) d))
 
 -- records written read back as their words
 pub read-back : (ws : List (List ℕ)) (rest : List ℕ) → ((w : List ℕ) → List·Memᴰ w ws → length w ≤ longestWord)
@@ -79,7 +83,7 @@ read-back (w ∷ ws) rest h =
 -- a part is as much of what is due as fits
 pub page : (a : Asked) → listCall a .answer .number ≡ 0 → wordsIn (listCall a) ≡ fitting a
 unfolding listCall
-page a e = rw e (read-back (fitting a) _ (short a (allowed a e .limit)))
+page a e = rw e (read-back (fitting a) _ (λ w m. omega (arith, allowed a e .limit, listed a w m .short)))
 
 -- what "a further word remains" says
 remains : (a : Asked) (b : Bool) → listCall a .answer .number ≡ 0 → listCall a .answer .more ≡ b → ltb (length (fitting a)) (length (due a)) ≡ b
@@ -103,7 +107,7 @@ past-last a ws rest e h =
     let x : List ℕ = lastWord ws in
     let d : due a ≡ l .0 ++ x ∷ rest = sym e ∙ ap (λ (u : List (List ℕ)). u ++ rest) (l .1) ∙ append-snoc (l .0) x rest in
     let whole : wholeList a ≡ s .0 ++ l .0 ++ x ∷ rest = s .1 ∙ ap (λ (u : List (List ℕ)). s .0 ++ u) d ∙ sym (append-assoc (s .0) (l .0) (x ∷ rest)) in
-    rw whole (past-at (s .0 ++ l .0) x rest (rw whole at (whole-ascending a)))
+    rw whole (past-at (s .0 ++ l .0) x rest (rw whole at (list-in-order a)))
 
 -- the next part is asked for what is left
 next-due : (a : Asked) (out : List ℕ) → listCall a .answer .number ≡ 0 → listCall a .answer .more ≡ true
@@ -127,3 +131,36 @@ parts h f = rw h at (parts-due f)
 pub parts-end : (a : Asked) (out : List ℕ) → listCall a .answer .number ≡ 0 → listCall a .answer .more ≡ true
     → length (due (goOn a (lastWord (wordsIn (listCall a))) out)) < length (due a)
 parts-end a out e m = rw (next-due a out e m) (omega (arith, filled a e m, length-take (room a) (due a), length-drop (room a) (due a)))
+
+-- the last of some words is one of them
+last-mem : (ws : List (List ℕ)) → 1 ≤ length ws → List·Memᴰ (lastWord ws) ws
+last-mem [] h = absurd (omega arith)
+last-mem (w ∷ []) h = List·Memᴰ·head refl
+last-mem (w ∷ v ∷ ws) h = List·Memᴰ·tail (last-mem (v ∷ ws) (omega arith))
+
+-- going on after a word within the length isn't refused
+go-on-number : (a : Asked) (w out : List ℕ) → Allowed a → IsWord w → length w ≤ a .length-limit → wrongOutput out ≡ false
+    → listCall (goOn a w out) .answer .number ≡ 0
+unfolding listCall
+go-on-number a w out al k h o =
+    let l : length w ≤ longestWord = omega (arith, al .limit) in
+    rw (al .sizes, eq-eqb (length (wordRecord w)) wordRecordSize (step-bytes-length longestWord w l), o, al .right, le-ltb longestWord (a .length-limit) (al .limit), al .quorum, step-bytes-form longestWord longestWord w k l, steps-back longestWord w, le-ltb (a .length-limit) (length w) h)
+
+-- the next part isn't refused, whatever output of a right size it is given
+pub goes-on : (a : Asked) (out : List ℕ) → wrongOutput out ≡ false → listCall a .answer .number ≡ 0 → listCall a .answer .more ≡ true
+    → listCall (goOn a (lastWord (wordsIn (listCall a))) out) .answer .number ≡ 0
+goes-on a out o e m =
+    let s = listed a (lastWord (fitting a)) (last-mem (fitting a) (filled a e m)) in
+    rw (page a e) (go-on-number a (lastWord (fitting a)) out (allowed a e) (s .word) (s .short) o)
+
+-- so the list can be fetched, part after part, into any output of a right size
+pub fetchable : (a : Asked) (out : List ℕ) → wrongOutput out ≡ false → listCall a .answer .number ≡ 0 → (ws : List (List ℕ)) × Fetched a ws
+fetchable a out o e = from (length (due a)) a (omega arith) e
+  where
+    from : (n : ℕ) (a : Asked) → length (due a) ≤ n → listCall a .answer .number ≡ 0 → (ws : List (List ℕ)) × Fetched a ws
+    from zero a h e = test (listCall a .answer .more) (λ m. absurd (omega (arith, parts-end a out e m))) (λ m. (wordsIn (listCall a), last-part e m))
+    from (suc n) a h e =
+        test (listCall a .answer .more)
+        (λ m. let r = from n (goOn a (lastWord (wordsIn (listCall a))) out) (omega (arith, parts-end a out e m)) (goes-on a out o e m) in
+        (wordsIn (listCall a) ++ r .0, one-part {out = out} e m (r .1)))
+        (λ m. (wordsIn (listCall a), last-part e m))

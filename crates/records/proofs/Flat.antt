@@ -2,8 +2,8 @@
 use Prim.Native.Nat.{ℕ, zero, suc, _+_, _*_, _<_}
 use native.Mathlib.Omega.{arith}
 use mathlib.Core.Path.{_≡_, refl, _∙_}
-use mathlib.Core.List.{List, [], _∷_, _++_, append-assoc, List·Memᴰ, List·Memᴰ·head, List·Memᴰ·tail}
-use lib.ListN.{length, getD, length-append, List·getD-append}
+use mathlib.Core.List.{List, [], _∷_, _++_, append-assoc, append-nil, List·Memᴰ, List·Memᴰ·head, List·Memᴰ·tail, Memᴰ·append-left}
+use lib.ListN.{length, take, drop, getD, length-append, take-append-drop, List·getD-append}
 use lib.Seq.{getD-append-add}
 use Rattle.records.specs.Bytes.{flat}
 
@@ -27,3 +27,12 @@ pub length-flat : (f : List ℕ → List ℕ) (n : ℕ) (l : List (List ℕ)) �
 length-flat f n [] h = omega arith
 length-flat f n (a ∷ l) h =
     omega (arith, length-append (f a) (flat f l), h a (List·Memᴰ·head refl), length-flat f n l (λ c m. h c (List·Memᴰ·tail m)))
+
+-- one more record stands behind the others
+pub flat-snoc : (f : List ℕ → List ℕ) (l : List (List ℕ)) (a : List ℕ) → flat f (l ++ (a ∷ [])) ≡ flat f l ++ f a
+flat-snoc f [] a = append-nil (f a)
+flat-snoc f (b ∷ l) a = rw (flat-snoc f l a, append-assoc)
+
+-- the first records have the width of all
+pub wide-take : (f : List ℕ → List ℕ) (n : ℕ) (l : List (List ℕ)) → Wide f n l → (i : ℕ) → Wide f n (take i l)
+wide-take f n l h i a m = h a (rw take-append-drop at (Memᴰ·append-left (drop i l) m))

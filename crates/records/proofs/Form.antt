@@ -1,4 +1,4 @@
--- The journal book and its journals give each other back, and a book of wrong form has its first wrong record, by induction over n records:
+-- The journal book and its journals give each other back, by induction over n records:
 -- behind an open record stands a book of journals, behind another only zeros. Assumes nothing.
 use Prim.Native.Nat.{ℕ, zero, suc, _+_, _-_, _*_, _≤_, _<_}
 use native.Mathlib.Omega.{arith}
@@ -10,14 +10,14 @@ use lib.ListN.{length, take, drop, replicate, length-append, length-replicate, l
 use lib.Seq.{take-at, drop-at, length-take-le, drop-drop}
 use lib.Dec.{eqb}
 use borrow.Author.Tests.{eqb-true, eqb-false, eq-eqb}
-use Rattle.words.specs.Words.{IsJournal, EachJournal, AreJournals}
-use Rattle.words.proofs.Test.{test}
 use Rattle.records.specs.Bytes.{records, flat}
-use Rattle.records.specs.StepBytes.{stepsOf}
 use Rattle.records.specs.JournalBook.{isOpen, recordForm, wrongRecord, firstWrong, firstWrongRecord, journalForm, openOnes, journalsOf, journalRecord, journalBook}
+use Rattle.records.specs.StepBytes.{stepsOf}
+use Rattle.words.specs.Words.{IsJournal, EachJournal, AreJournals}
 use Rattle.records.proofs.Flat.{Wide, length-flat}
-use Rattle.records.proofs.Tests.{both, zero-eq}
 use Rattle.records.proofs.StepBytes.{steps-back, step-bytes-form, step-bytes-length, form-steps}
+use Rattle.records.proofs.Tests.{both, zero-eq}
+use Rattle.words.proofs.Test.{test}
 
 -- a record and what follows it
 front : (m n : ℕ) (r b : List ℕ) → length r ≡ m → records m (suc n) (r ++ b) ≡ r ∷ records m n b
@@ -123,7 +123,7 @@ add-shut n b js z e i =
     }
 
 -- what a record that isn't wrong says: it has its form, and is open only behind an open one
-right : (f p o : Bool) → (not f || (p && not o)) ≡ false → (f ≡ true) × (p ≡ true → o ≡ true)
+pub right : (f p o : Bool) → (not f || (p && not o)) ≡ false → (f ≡ true) × (p ≡ true → o ≡ true)
 right true true true w = (refl, λ e. refl)
 right true true false w = absurd (false≢true (sym w))
 right true false o w = (refl, λ e. absurd (false≢true e))
@@ -197,104 +197,3 @@ form b = (λ t. (journalsOf b, form-book b t .0, form-book b t .1), λ p. rw (p 
 -- and a book has one row of journals
 pub form-unique : (b : List ℕ) (js ks : List (List ℕ)) → AreJournals js → AreJournals ks → b ≡ journalBook js → b ≡ journalBook ks → js ≡ ks
 form-unique b js ks k l p q = sym (journals-back js k) ∙ ap journalsOf (sym p ∙ q) ∙ journals-back ks l
-
--- the bytes of record i
-abbrev pub rec : List ℕ → ℕ → List ℕ
-rec b i = take 256 (drop (256 * i) b)
-
--- record i is wrong: its form is, or it is open while the record before it isn't
-abbrev pub Wrong : List ℕ → ℕ → Type 0
-Wrong b i = (recordForm (rec b i) ≡ false) ⊎ ((isOpen (rec b i) ≡ true) × ((k : ℕ) × (i ≡ suc k) × (isOpen (rec b k) ≡ false)))
-
--- record n of the book is the first that is wrong
-pub record FirstWrong (b : List ℕ) (n : ℕ) : Type 0 where
-  pub within : n < 16
-  pub wrong : Wrong b n
-  pub earlier : (i : ℕ) → i < n → Wrong b i → ⊥
-
--- whether the record before record i is open, and o before the first
-abbrev openBefore : Bool → List ℕ → ℕ → Bool
-openBefore o b zero = o
-openBefore o b (suc k) = isOpen (rec b k)
-
--- the same test at each record
-abbrev wrongAt : Bool → List ℕ → ℕ → Bool
-wrongAt o b i = wrongRecord (openBefore o b i) (rec b i)
-
-rec-shift : (b : List ℕ) (i : ℕ) → rec b (suc i) ≡ rec (drop 256 b) i
-rec-shift b i =
-    let e : 256 * suc i ≡ 256 + 256 * i = omega arith in
-    ap (λ (k : ℕ). take 256 (drop k b)) e ∙ ap (take 256) (sym (drop-drop (256 * i) 256 b))
-
-wrong-shift : (o : Bool) (b : List ℕ) (i : ℕ) → wrongAt o b (suc i) ≡ wrongAt (isOpen (take 256 b)) (drop 256 b) i
-wrong-shift o b zero = ap (wrongRecord (isOpen (rec b 0))) (rec-shift b 0)
-wrong-shift o b (suc i) = ap₂ (λ (x y : List ℕ). wrongRecord (isOpen x) y) (rec-shift b i) (rec-shift b (suc i))
-
-first-within : (o : Bool) (n : ℕ) (b : List ℕ) → firstWrong o (records 256 n b) ≤ n
-first-within o zero b = omega arith
-first-within o (suc n) b =
-    test (wrongRecord o (take 256 b)) (λ t. rw t (omega arith)) (λ f. rw f (omega (arith, first-within (isOpen (take 256 b)) n (drop 256 b))))
-
--- the first wrong of n records, by the test
-first-test : (o : Bool) (n : ℕ) (b : List ℕ) → firstWrong o (records 256 n b) < n
-    → (wrongAt o b (firstWrong o (records 256 n b)) ≡ true) × ((i : ℕ) → i < firstWrong o (records 256 n b) → wrongAt o b i ≡ false)
-first-test o zero b h = absurd (omega arith)
-first-test o (suc n) b h =
-    test (wrongRecord o (take 256 b)) (λ t. rw t (t, λ i l. absurd (omega arith)))
-    (λ f. rw f (later f (first-test (isOpen (take 256 b)) n (drop 256 b) (less (rw f at h)))))
-  where
-    less : {m : ℕ} → suc m < suc n → m < n
-    less l = omega arith
-
-    later : {m : ℕ} → wrongRecord o (take 256 b) ≡ false
-        → (wrongAt (isOpen (take 256 b)) (drop 256 b) m ≡ true) × ((i : ℕ) → i < m → wrongAt (isOpen (take 256 b)) (drop 256 b) i ≡ false)
-        → (wrongAt o b (suc m) ≡ true) × ((i : ℕ) → i < suc m → wrongAt o b i ≡ false)
-    later {m} f p = (wrong-shift o b m ∙ p .0, before)
-      where
-        before : (i : ℕ) → i < suc m → wrongAt o b i ≡ false
-        before zero l = f
-        before (suc i) l = wrong-shift o b i ∙ p .1 i (omega arith)
-
--- what the test says
-fault : (f p o : Bool) → (not f || (p && not o)) ≡ true → (f ≡ false) ⊎ ((p ≡ true) × (o ≡ false))
-fault true true true w = absurd (false≢true w)
-fault true true false w = inr (refl, refl)
-fault true false o w = absurd (false≢true w)
-fault false p o w = inl refl
-
-shut-before : (b : List ℕ) (i : ℕ) → openBefore true b i ≡ false → (k : ℕ) × (i ≡ suc k) × (isOpen (rec b k) ≡ false)
-shut-before b zero e = absurd (false≢true (sym e))
-shut-before b (suc k) e = (k, refl, e)
-
-before-shut : (b : List ℕ) (i : ℕ) → (k : ℕ) × (i ≡ suc k) × (isOpen (rec b k) ≡ false) → openBefore true b i ≡ false
-before-shut b i p = rw (p .1) (p .2)
-
-is-wrong : (b : List ℕ) (i : ℕ) → wrongAt true b i ≡ true → Wrong b i
-is-wrong b i w = says (fault (recordForm (rec b i)) (isOpen (rec b i)) (openBefore true b i) w)
-  where
-    says : (recordForm (rec b i) ≡ false) ⊎ ((isOpen (rec b i) ≡ true) × (openBefore true b i ≡ false)) → Wrong b i
-    says (inl f) = inl f
-    says (inr p) = inr (p .0, shut-before b i (p .1))
-
-isnt-wrong : (b : List ℕ) (i : ℕ) → wrongAt true b i ≡ false → Wrong b i → ⊥
-isnt-wrong b i w (inl f) = false≢true (sym f ∙ right (recordForm (rec b i)) (isOpen (rec b i)) (openBefore true b i) w .0)
-isnt-wrong b i w (inr p) =
-    false≢true (sym (before-shut b i (p .1)) ∙ right (recordForm (rec b i)) (isOpen (rec b i)) (openBefore true b i) w .1 (p .0))
-
-first-most : (b : List ℕ) → firstWrongRecord b ≤ 16
-unfolding firstWrongRecord
-first-most b = first-within true 16 b
-
-first-tested : (b : List ℕ) → firstWrongRecord b < 16
-    → (wrongAt true b (firstWrongRecord b) ≡ true) × ((i : ℕ) → i < firstWrongRecord b → wrongAt true b i ≡ false)
-unfolding firstWrongRecord
-first-tested b h = first-test true 16 b h
-
--- a book of the right size and wrong form: its first wrong record
-pub wrong-first : (b : List ℕ) → length b ≡ 4096 → journalForm b ≡ false → FirstWrong b (firstWrongRecord b)
-unfolding journalForm
-wrong-first b l t =
-    let n = eqb-false (firstWrongRecord b) 16 (rw (eq-eqb (length b) 4096 l) at t) in
-    let h : firstWrongRecord b < 16 = omega (arith, n, first-most b) in
-    let f = first-tested b h in
-    record { within = h; wrong = is-wrong b (firstWrongRecord b) (f .0); earlier = λ i m. isnt-wrong b i (f .1 i m) }

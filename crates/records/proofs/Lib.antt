@@ -2,4 +2,8 @@ pub mod Tests
 pub mod Flat
 pub mod StepBytes
 pub mod Form
+pub mod FirstWrong
+pub mod Keys
 pub mod RowBytes
+pub mod RowBook
+pub mod Sound

@@ -2,17 +2,20 @@
 use Prim.Native.Nat.{ℕ, zero, suc, _+_, _-_, _*_, _/_, _%_, _≤_, _<_}
 use native.Mathlib.Omega.{arith}
 use mathlib.Core.Path.{_≡_, refl, sym, ap, _∙_}
-use mathlib.Core.List.{List, [], _∷_, _++_, append-assoc, List·Memᴰ, List·Memᴰ·head, List·Memᴰ·tail}
+use mathlib.Core.Bool.{true}
+use mathlib.Core.List.{List, [], _∷_, _++_, List·Memᴰ}
 use lib.ListN.{length, getD, replicate, length-append, length-replicate, List·getD-append}
 use lib.Seq.{getD-append-add, getD-at}
-use Rattle.words.specs.Picture.{codes, steps, rowOf, arc, arcs, picture}
-use Rattle.words.specs.Places.{held}
-use Rattle.words.proofs.Members.{picture-ascending}
-use Rattle.words.proofs.Place.{Short}
-use Rattle.words.proofs.Rows.{row-is, row-width}
 use Rattle.records.specs.Bytes.{flat, twoBytes}
-use Rattle.records.proofs.Flat.{Wide, flat-at, length-flat}
 use Rattle.records.specs.RowBook.{placeBytes, arcBytes, rowBytes, rowBook, countAt, arcAt}
+use Rattle.words.specs.Picture.{codes, steps, rowOf, arc, arcs, picture}
+use Rattle.words.specs.Places.{held, state, live}
+use Rattle.words.specs.Words.{IsWord, AreJournals, count}
+use Rattle.records.proofs.Flat.{Wide, flat-at, length-flat}
+use Rattle.records.proofs.Keys.{key-length}
+use Rattle.words.proofs.Members.{picture-ascending, picture-members}
+use Rattle.words.proofs.Place.{Short, short, held-count}
+use Rattle.words.proofs.Rows.{row-is, row-width}
 
 length-two : (ns : List ℕ) → length (twoBytes ns) ≡ 2 * length ns
 length-two [] = refl
@@ -38,9 +41,6 @@ arcs-at js rows a i (suc n) zero h = ap (λ (m : ℕ). arc js rows a m) (omega a
 arcs-at js rows a i (suc n) (suc k) h = arcs-at js rows a (suc i) n k (omega arith) ∙ ap (λ (m : ℕ). arc js rows a m) (omega arith)
 
 module _ (js : List (List ℕ)) (a : List ℕ) (fits : length a ≤ 16) where
-  length-places : length (placeBytes a) ≡ 16
-  length-places = omega (arith, length-append a (replicate (16 - length a) 0), length-replicate {A = ℕ} (16 - length a) 0)
-
   abbrev As : List ℕ
   As = arcs js (picture js) a steps
 
@@ -48,7 +48,7 @@ module _ (js : List (List ℕ)) (a : List ℕ) (fits : length a ≤ 16) where
   Front = placeBytes a ++ arcBytes js a
 
   length-front : length Front ≡ 48
-  length-front = omega (arith, length-append (placeBytes a) (twoBytes As), length-places, length-two As, length-arcs js (picture js) a steps)
+  length-front = omega (arith, length-append (placeBytes a) (twoBytes As), key-length a fits, length-two As, length-arcs js (picture js) a steps)
 
   -- a row has 64 bytes
   pub row-length : length (rowBytes js a) ≡ 64
@@ -59,12 +59,12 @@ module _ (js : List (List ℕ)) (a : List ℕ) (fits : length a ≤ 16) where
 
   -- bytes 0 to 15 are the places
   pub row-place : (i : ℕ) → i < 16 → getD (rowBytes js a) i 0 ≡ getD (placeBytes a) i 0
-  row-place i h = in-front i (omega arith) ∙ List·getD-append (placeBytes a) (twoBytes As) 0 i (omega (arith, length-places))
+  row-place i h = in-front i (omega arith) ∙ List·getD-append (placeBytes a) (twoBytes As) 0 i (omega (arith, key-length a fits))
 
   in-arcs : (i : ℕ) → i < 32 → getD (rowBytes js a) (16 + i) 0 ≡ getD (twoBytes As) i 0
   in-arcs i h =
       in-front (16 + i) (omega arith)
-      ∙ ap (λ (m : ℕ). getD Front (m + i) 0) (sym length-places)
+      ∙ ap (λ (m : ℕ). getD Front (m + i) 0) (sym (key-length a fits))
       ∙ getD-append-add (placeBytes a) (twoBytes As) i 0
 
   -- bytes 16 to 47 are the arcs
@@ -83,7 +83,8 @@ module _ (js : List (List ℕ)) (h : Short js) (few : length js ≤ 16) where
   fits : (a : List ℕ) → List·Memᴰ a (picture js) → length a ≤ 16
   fits a m = omega (arith, row-width js h a m)
 
-  wide : Wide (rowBytes js) 64 (picture js)
+  -- each row of the picture has 64 bytes
+  pub wide : Wide (rowBytes js) 64 (picture js)
   wide a m = row-length js a (fits a m)
 
   -- a row book has its size
@@ -108,3 +109,10 @@ module _ (js : List (List ℕ)) (h : Short js) (few : length js ≤ 16) where
     -- the arcs of the row of a state
     pub arc-bytes : (s : ℕ) → s < 16 → arcAt (rowBook js) (rowOf a 0 (picture js)) s ≡ arc js (picture js) a s
     arc-bytes s b = rw (byte-at (16 + 2 * s) (omega arith), byte-at (17 + 2 * s) (omega arith)) (row-arc js a (fits a m) s b)
+
+-- the count byte of a row is the count of every word that leads there
+pub row-counts : (js : List (List ℕ)) → AreJournals js → (w : List ℕ) → IsWord w → live (state js w) ≡ true
+    → countAt (rowBook js) (rowOf (state js w) 0 (picture js)) ≡ count js w
+row-counts js k w i t =
+    let h = short js (k .each) in
+    count-byte js h (k .few) (state js w) (picture-members js h (state js w) .1 (t, (w, i, refl))) ∙ held-count js w h

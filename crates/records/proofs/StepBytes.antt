@@ -9,10 +9,10 @@ use lib.ListN.{length, take, drop, replicate, length-append, length-replicate, l
 use lib.Seq.{take-at, drop-at, length-take-le}
 use lib.Dec.{leb}
 use borrow.Author.Tests.{leb-true, le-leb}
-use Rattle.words.specs.Words.{IsWord}
 use Rattle.records.specs.Bytes.{allBelow, allZero}
 use Rattle.records.specs.StepBytes.{stepsOf, stepsForm, stepBytes}
 use Rattle.records.specs.WordRecord.{wordForm, wordOf, wordRecord}
+use Rattle.words.specs.Words.{IsWord}
 use Rattle.records.proofs.Tests.{both, below-word, word-below, zero-eq, eq-zero}
 
 -- the steps of their bytes

@@ -7,9 +7,9 @@ use mathlib.Core.List.{List, [], _∷_}
 use lib.ListN.{length, getD, replicate}
 use lib.Dec.{ltb, eqb}
 use borrow.Author.Tests.{lt-ltb, ltb-true, ltb-false, eqb-true, eqb-false, eq-eqb}
+use Rattle.records.specs.Bytes.{First, allBelow, allZero, differ, same}
 use Rattle.words.specs.Words.{IsWord}
 use Rattle.words.proofs.Test.{test}
-use Rattle.records.specs.Bytes.{allBelow, allZero, differ, same}
 
 -- a test that is two tests
 pub both : (a b : Bool) → (a && b) ≡ true → (a ≡ true) × (b ≡ true)
@@ -49,12 +49,6 @@ zero-eq (x ∷ b) t =
 pub eq-zero : (n : ℕ) → allZero (replicate n 0) ≡ true
 eq-zero zero = refl
 eq-zero (suc n) = eq-zero n
-
--- d is the first place at which a and b differ
-pub record First (a b : List ℕ) (d : ℕ) : Type 0 where
-  pub within : d < length a
-  pub differs : getD a d 0 ≡ getD b d 0 → ⊥
-  pub alike : (i : ℕ) → i < d → getD a i 0 ≡ getD b i 0
 
 -- the first difference behind a byte that is alike
 first-later : (x y : ℕ) (a b : List ℕ) (d : ℕ) → x ≡ y → First a b d → First (x ∷ a) (y ∷ b) (suc d)

@@ -1,8 +1,9 @@
 -- Rows of bytes. Assumes nothing.
-use Prim.Native.Nat.{ℕ, zero, suc, _/_, _%_}
+use Prim.Native.Nat.{ℕ, zero, suc, _/_, _%_, _<_}
+use mathlib.Core.Path.{_≡_}
 use mathlib.Core.Bool.{Bool, true, false, cond}
 use mathlib.Core.List.{List, [], _∷_, _++_}
-use lib.ListN.{length, take, drop}
+use lib.ListN.{length, take, drop, getD}
 use lib.Dec.{eqb, ltb}
 
 -- n records of m bytes each, one after the other
@@ -32,6 +33,12 @@ abbrev pub differ : List ℕ → List ℕ → ℕ
 differ [] b = zero
 differ (x ∷ a) [] = zero
 differ (x ∷ a) (y ∷ b) = cond (eqb x y) (suc (differ a b)) zero
+
+-- The same as a relation: d is the first place at which the rows a and b differ.
+pub record First (a b : List ℕ) (d : ℕ) : Type 0 where
+  pub within : d < length a
+  pub differs : getD a d 0 ≡ getD b d 0 → ⊥
+  pub alike : (i : ℕ) → i < d → getD a i 0 ≡ getD b i 0
 
 -- two rows of bytes are the same
 abbrev pub same : List ℕ → List ℕ → Bool

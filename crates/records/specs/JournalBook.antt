@@ -1,8 +1,10 @@
 -- The journal book: 4,096 bytes, 16 records of 256. Assumes nothing.
-use Prim.Native.Nat.{ℕ, zero, suc, _-_, _*_}
+use Prim.Native.Nat.{ℕ, zero, suc, _-_, _*_, _<_}
+use mathlib.Core.Path.{_≡_}
+use mathlib.Core.Logic.{_⊎_}
 use mathlib.Core.Bool.{Bool, true, false, cond, not, _&&_, _||_}
 use mathlib.Core.List.{List, [], _∷_, _++_}
-use lib.ListN.{length, drop, getD, replicate}
+use lib.ListN.{length, take, drop, getD, replicate}
 use lib.Dec.{eqb}
 use Rattle.words.specs.Limits.{longestJournal, mostJournals}
 use Rattle.records.specs.Sizes.{journalBookSize, journalRecordSize}
@@ -33,6 +35,20 @@ firstWrongRecord b = firstWrong true (records journalRecordSize mostJournals b)
 -- the book has its form: its size, and no wrong record
 unfoldable pub journalForm : List ℕ → Bool
 journalForm b = eqb (length b) journalBookSize && eqb (firstWrongRecord b) mostJournals
+
+-- the bytes of record i
+abbrev pub recordAt : List ℕ → ℕ → List ℕ
+recordAt b i = take journalRecordSize (drop (journalRecordSize * i) b)
+
+-- The same as a relation: record i has the wrong form, or is open after one that isn't.
+abbrev pub Wrong : List ℕ → ℕ → Type 0
+Wrong b i =
+    (recordForm (recordAt b i) ≡ false) ⊎ ((isOpen (recordAt b i) ≡ true) × ((k : ℕ) × (i ≡ suc k) × (isOpen (recordAt b k) ≡ false)))
+
+pub record FirstWrong (b : List ℕ) (n : ℕ) : Type 0 where
+  pub within : n < mostJournals
+  pub wrong : Wrong b n
+  pub earlier : (i : ℕ) → i < n → Wrong b i → ⊥
 
 -- the journals of the records before the first that isn't open
 abbrev pub openOnes : List (List ℕ) → List (List ℕ)

@@ -6,7 +6,11 @@ pub mod Members
 pub mod Falls
 pub mod Rows
 pub mod Closed
+pub mod Pictured
+pub mod Steps
+pub mod Sweep
 pub mod Opening
+pub mod Journals
 pub mod Dictionary
 pub mod Past
 pub mod Worked

@@ -72,7 +72,8 @@ before-opened (j ∷ js) v w t =
     test (ltb (place j v) (place j w)) (λ l. rw l)
     (λ n. test (ltb (place j w) (place j v)) (λ m. absurd (false≢true (rw (n, m) at t))) (λ m. rw (n, m) (before-opened js v w (rw (n, m) at t))))
 
-map-ascending : (f : List ℕ → List ℕ) (l : List (List ℕ)) → ((a b : List ℕ) → Mem a l → Mem b l → before a b ≡ true → before (f a) (f b) ≡ true)
+-- a map that keeps the order of the rows keeps them ascending
+pub map-ascending : (f : List ℕ → List ℕ) (l : List (List ℕ)) → ((a b : List ℕ) → Mem a l → Mem b l → before a b ≡ true → before (f a) (f b) ≡ true)
     → Ascending l → Ascending (map f l)
 map-ascending f [] k h = tt
 map-ascending f (a ∷ l) k h = (λ b m. first b (Memᴰ·of-map f l m), map-ascending f l (λ b c p q. k b c (List·Memᴰ·tail p) (List·Memᴰ·tail q)) (h .1))

@@ -94,25 +94,35 @@ start-row js (c ∷ l) h b m =
     ⊎-elim (λ (e : state js [] ≡ c). row-head (state js []) c 0 l e)
     (λ (k : Mem (state js []) l). absurd (false≢true (sym (zeros-first js c (b c (List·Memᴰ·head refl))) ∙ h .0 (state js []) k))) (List·Memᴰ·cases-cons m)
 
+-- a live state has a place for each journal
+pub live-width : (js : List (List ℕ)) (a : List ℕ) → LiveState js a → length a ≡ length js
+live-width js a r = rw (r .1 .2) (length-state js (r .1 .0))
+
+-- what a step reaches from a live state, if it is live, is a live state of the journals
+pub step-live : (js : List (List ℕ)) (a : List ℕ) (s : ℕ) → LiveState js a → s < 16 → live (step js a s) ≡ true → LiveState js (step js a s)
+step-live js a s r b t =
+    (t, (r .1 .0 ++ (s ∷ []), snoc-steps (r .1 .0) s (r .1 .1) b, ap (λ (c : List ℕ). step js c s) (r .1 .2) ∙ sym (state-snoc js (r .1 .0) s)))
+
+-- it stands after the state that it is reached from
+pub live-after : (js : List (List ℕ)) (a : List ℕ) (s : ℕ) → Short js → LiveState js a → live (step js a s) ≡ true → before a (step js a s) ≡ true
+live-after js a s h r t = step-after js a s h (rw (r .1 .2) (state-within js (r .1 .0) h)) t
+
 module _ (js : List (List ℕ)) (h : Short js) (a : List ℕ) (m : Mem a (picture js)) where
   reached : LiveState js a
   reached = picture-members js h a .0 m
 
   -- a row has a place for each journal
   pub row-width : length a ≡ length js
-  row-width = rw (reached .1 .2) (length-state js (reached .1 .0))
+  row-width = live-width js a reached
 
   module _ (s : ℕ) (b : s < 16) where
     -- what a step reaches from a row, if it is live, is a row
     pub step-row : live (step js a s) ≡ true → Mem (step js a s) (picture js)
-    step-row t =
-        picture-members js h (step js a s) .1
-        (t, (reached .1 .0 ++ (s ∷ []), snoc-steps (reached .1 .0) s (reached .1 .1) b, ap (λ (c : List ℕ). step js c s) (reached .1 .2) ∙ sym (state-snoc js (reached .1 .0) s)))
+    step-row t = picture-members js h (step js a s) .1 (step-live js a s reached b t)
 
     -- an arc to a live state is greater than the row's number
     pub arc-after : live (step js a s) ≡ true → rowOf a 0 (picture js) < arc js (picture js) a s
-    arc-after t =
-        rw t (row-less a (step js a s) 0 (picture js) (picture-ascending js) m (step-row t) (step-after js a s h (rw (reached .1 .2) (state-within js (reached .1 .0) h)) t))
+    arc-after t = rw t (row-less a (step js a s) 0 (picture js) (picture-ascending js) m (step-row t) (live-after js a s h reached t))
 
     -- every arc of a row of the picture is 0 or greater than the row's number
     pub arc-rises : (arc js (picture js) a s ≡ 0) ⊎ (rowOf a 0 (picture js) < arc js (picture js) a s)

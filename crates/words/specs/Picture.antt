@@ -1,11 +1,12 @@
 -- The picture of the journals: every live state once, in ascending order, and the arcs between them. Assumes nothing.
 use Prim.Native.Nat.{ℕ, zero, suc, max}
+use mathlib.Core.Logic.{_↔_}
 use mathlib.Core.Bool.{cond}
-use mathlib.Core.List.{List, [], _∷_}
+use mathlib.Core.List.{List, [], _∷_, List·Memᴰ}
 use lib.ListN.{length}
 use Rattle.words.specs.Limits.{stepCodes}
-use Rattle.words.specs.Places.{state, step, live}
-use Rattle.words.specs.Order.{before}
+use Rattle.words.specs.Places.{state, step, live, LiveState}
+use Rattle.words.specs.Order.{before, Ascending}
 
 -- the n numbers from i on
 abbrev pub codes : ℕ → ℕ → List ℕ
@@ -48,6 +49,11 @@ longest (j ∷ js) = max (length j) (longest js)
 -- A word that is longer than every journal is live nowhere.
 unfoldable pub picture : List (List ℕ) → List (List ℕ)
 picture js = reach js (longest js)
+
+-- The same as a relation: the rows are exactly the live states, no state twice, in ascending order.
+pub record IsPicture (js rows : List (List ℕ)) : Type 0 where
+  pub live-states : (a : List ℕ) → List·Memᴰ a rows ↔ LiveState js a
+  pub ascending : Ascending rows
 
 -- the row number of a among the rows, counted from i, and 0 if a isn't there
 abbrev pub rowOf : List ℕ → ℕ → List (List ℕ) → ℕ
