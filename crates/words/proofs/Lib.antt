@@ -1,3 +1,4 @@
+pub mod Worked
 pub mod Test
 pub mod Place
 pub mod Least
@@ -13,4 +14,3 @@ pub mod Opening
 pub mod Journals
 pub mod Dictionary
 pub mod Past
-pub mod Worked
