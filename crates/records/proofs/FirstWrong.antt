@@ -24,7 +24,8 @@ openBefore o b (suc k) = isOpen (recordAt b k)
 abbrev wrongAt : Bool → List ℕ → ℕ → Bool
 wrongAt o b i = wrongRecord (openBefore o b i) (recordAt b i)
 
-record-shift : (b : List ℕ) (i : ℕ) → recordAt b (suc i) ≡ recordAt (drop 256 b) i
+-- a record of the bytes behind the first
+pub record-shift : (b : List ℕ) (i : ℕ) → recordAt b (suc i) ≡ recordAt (drop 256 b) i
 record-shift b i =
     let e : 256 * suc i ≡ 256 + 256 * i = omega arith in
     ap (λ (k : ℕ). take 256 (drop k b)) e ∙ ap (take 256) (sym (drop-drop (256 * i) 256 b))

@@ -1,0 +1,27 @@
+// Filling lent bytes: with zeros, or with other bytes.
+
+ghost use mathlib.Core.Path.{_≡_};
+ghost use lib.ListN.{length, replicate};
+
+// Makes every byte zero.
+pub fn zero_all(bytes: &mut [u8])
+    ensures { λ _. ⌜ now (bytes .exit) ≡ replicate (length (now (bytes .entry))) 0 ⌝ }
+{
+    let mut i = 0;
+    while i < bytes.len() {
+        bytes[i] = 0;
+        i += 1;
+    }
+}
+
+// Makes the bytes those of a source of the same length.
+pub fn copy_all(source: &[u8], bytes: &mut [u8])
+    requires { ⌜ length (now source) ≡ length (now bytes) ⌝ }
+    ensures { λ _. ⌜ now (bytes .exit) ≡ now (source .entry) ⌝ }
+{
+    let mut i = 0;
+    while i < source.len() {
+        bytes[i] = source[i];
+        i += 1;
+    }
+}

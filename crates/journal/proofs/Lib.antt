@@ -1,0 +1,5 @@
+pub mod Parts
+pub mod Below
+pub mod Index
+pub mod Records
+pub mod Journals
