@@ -6,7 +6,7 @@ use mathlib.Core.Path.{_≡_, refl, sym, ap, _∙_}
 use mathlib.Core.List.{List, [], _∷_}
 use lib.ListN.{replicate, getD, drop}
 use Rattle.books.specs.Append.{appendCall}
-use Rattle.books.specs.Check.{checkCall}
+use Rattle.books.specs.Check.{checkCall, checkRows, compared}
 use Rattle.books.specs.Clear.{After, clearCall}
 use Rattle.books.specs.JournalCount.{journalCountCall}
 use Rattle.books.specs.Open.{openCall}
@@ -71,7 +71,7 @@ unfolding journalCountCall journalForm firstWrongRecord journalsOf journalBook j
 journal-counts-none = refl
 
 check-accepts : checkCall noJournals noRows .number ≡ 0
-unfolding checkCall journalForm firstWrongRecord journalsOf rowBook picture
+unfolding checkCall checkRows compared journalForm firstWrongRecord journalsOf rowBook picture
 check-accepts = refl
 
 row-record-accepts : rowRecordNumberCall noRows 0 ≡ 0

@@ -9,7 +9,7 @@ use mathlib.Core.List.{List, [], _∷_}
 use lib.ListN.{length, getD}
 use lib.Dec.{eqb, leb, ltb}
 use borrow.Author.Tests.{eqb-true, leb-true, le-leb, lt-ltb, le-ltb, ltb-true, ltb-false}
-use Rattle.books.specs.Check.{checked, firstDifference, checkCall, Verdict, wrong-sizes, book-one, too-many, book-two, all-right}
+use Rattle.books.specs.Check.{checked, compared, checkRows, checkCall, Verdict, wrong-sizes, book-one, too-many, book-two, all-right}
 use Rattle.records.specs.Bytes.{same, differ, First}
 use Rattle.records.specs.JournalBook.{journalForm, journalsOf, firstWrongRecord}
 use Rattle.records.specs.RowBook.{rowBook}
@@ -43,17 +43,17 @@ module _ (jb rb : List ℕ) where
   check-one w f = rw (w, f)
 
   check-many : rightSizes jb rb ≡ true → journalForm jb ≡ true → 1000 < length (picture js) → checkCall jb rb ≡ checked 2 2 1000 0
-  unfolding checkCall
+  unfolding checkCall checkRows
   check-many w f m = rw (w, f, lt-ltb 1000 (length (picture js)) m)
 
   check-two : rightSizes jb rb ≡ true → journalForm jb ≡ true → length (picture js) ≤ 1000 → same rb (rowBook js) ≡ false
-      → checkCall jb rb ≡ firstDifference rb (rowBook js)
-  unfolding checkCall
+      → checkCall jb rb ≡ checked 2 2 (differ rb (rowBook js) / 64) (differ rb (rowBook js) % 64)
+  unfolding checkCall checkRows compared
   check-two w f m s = rw (w, f, le-ltb 1000 (length (picture js)) m, s)
 
   check-right : rightSizes jb rb ≡ true → journalForm jb ≡ true → length (picture js) ≤ 1000 → same rb (rowBook js) ≡ true
       → checkCall jb rb ≡ checked 0 0 0 0
-  unfolding checkCall
+  unfolding checkCall checkRows compared
   check-right w f m s = rw (w, f, le-ltb 1000 (length (picture js)) m, s)
 
   -- a row book that differs from the picture differs in a first byte

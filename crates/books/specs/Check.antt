@@ -17,18 +17,21 @@ use Rattle.books.specs.declared.Checked.{Checked}
 abbrev pub checked : ℕ → ℕ → ℕ → ℕ → Checked
 checked n k r b = record { number = n; book = k; at = r; byte = b }
 
--- the first row, and in it the first byte, that differs from the picture
-abbrev pub firstDifference : List ℕ → List ℕ → Checked
-firstDifference rb picture = let d = differ rb picture in checked damaged 2 (d / rowRecordSize) (d % rowRecordSize)
+-- a row book beside the picture: the same, or the first row, and in it the first byte, that differs
+unfoldable pub compared : List ℕ → List ℕ → Checked
+compared rb picture =
+    let d : ℕ = differ rb picture in
+    cond (same rb picture) (checked done 0 0 0) (checked damaged 2 (d / rowRecordSize) (d % rowRecordSize))
+
+-- With more than 1,000 live states it says book 2, record 1,000, byte 0.
+unfoldable pub checkRows : List (List ℕ) → List ℕ → Checked
+checkRows js rb = cond (ltb mostRows (length (picture js))) (checked damaged 2 mostRows 0) (compared rb (rowBook js))
 
 -- Check answers 1 for size, else 0, or 2 with a book and a record. Book 1 is judged first, and book 2 only if book 1 has its form.
--- With more than 1,000 live states it says book 2, record 1,000, byte 0.
 unfoldable pub checkCall : List ℕ → List ℕ → Checked
 checkCall jb rb =
     cond (not (rightSizes jb rb)) (checked wrongSize 0 0 0)
-    (cond (not (journalForm jb)) (checked damaged 1 (firstWrongRecord jb) 0)
-    (cond (ltb mostRows (length (picture (journalsOf jb)))) (checked damaged 2 mostRows 0)
-    (cond (same rb (rowBook (journalsOf jb))) (checked done 0 0 0) (firstDifference rb (rowBook (journalsOf jb))))))
+    (cond (not (journalForm jb)) (checked damaged 1 (firstWrongRecord jb) 0) (checkRows (journalsOf jb) rb))
 
 -- The same as a relation: where document 01 says that the books are wrong.
 pub data Verdict (jb rb : List ℕ) : Checked → Type 0 where
