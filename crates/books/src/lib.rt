@@ -1,5 +1,7 @@
 // The books: what the calls answer. The calls themselves follow.
 
+mod difference;
+
 // What a count answers: a number of document 01, and the count.
 pub struct Counted {
     pub number: u8,

@@ -24,7 +24,7 @@ front : (m n : ℕ) (r b : List ℕ) → length r ≡ m → records m (suc n) (r
 front m n r b l = rw (take-at r b m l, drop-at r b m l)
 
 -- an open record has 256 bytes
-record-length : (j : List ℕ) → length j ≤ 200 → length (journalRecord j) ≡ 256
+pub record-length : (j : List ℕ) → length j ≤ 200 → length (journalRecord j) ≡ 256
 unfolding journalRecord
 record-length j h = omega (arith, step-bytes-length 254 j (omega arith))
 
@@ -155,7 +155,7 @@ form-in o (suc n) b l w =
         (λ p. rw p (add-shut n b _ (shut-record (take 256 b) e p (f .0)) (i .1 p) (i .0), λ z. refl))
 
 -- each journal takes one record
-each-wide : (js : List (List ℕ)) → EachJournal js → Wide journalRecord 256 js
+pub each-wide : (js : List (List ℕ)) → EachJournal js → Wide journalRecord 256 js
 each-wide [] k j m = absurd (List·Memᴰ·not-nil m)
 each-wide (i ∷ js) k j m =
     ⊎-elim (λ (e : j ≡ i). rw e (record-length i (k .0 .0))) (λ (n : List·Memᴰ j js). each-wide js (k .1) j n) (List·Memᴰ·cases-cons m)

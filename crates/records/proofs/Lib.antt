@@ -7,3 +7,4 @@ pub mod Keys
 pub mod RowBytes
 pub mod RowBook
 pub mod Sound
+pub mod Writing

@@ -1,0 +1,26 @@
+-- `books::difference::compare_rows` meets its contract: the spot that the walk came to says where the books differ, or that they don't.
+-- Assumes nothing.
+use borrow.Author.Needs.{needs}
+use native.Mathlib.Omega.{arith}
+use mathlib.Core.Path.{sym}
+use Rattle.books.proofs.Differences.{compared-differs, compared-same}
+use Rattle.books.proofs.difference.compare_rows.Statement.{statement}
+use Rattle.books.proofs.difference.compare_rows.Tie as tie
+
+first-difference-requires : tie.Need-first-difference-requires
+first-difference-requires c κs = search needs
+
+returns : tie.Need-returns
+returns c =
+    let a = c .before .before .before .before .before .args in
+    let f = c .before .before .first-difference in
+    sym (compared-differs (a .rows .now) (a .picture .now) (f .result .row) (f .result .byte) (f .ensures .0) (f .ensures .1) (omega arith) (c .if1 .taken))
+
+returns-2 : tie.Need-returns-2
+returns-2 c =
+    let a = c .before .before .before .before .before .args in
+    let f = c .before .before .first-difference in
+    sym (compared-same (a .rows .now) (a .picture .now) (f .result .row) (f .result .byte) (f .ensures .0) (f .ensures .1) (omega arith) (omega arith) (c .if1 .left))
+
+pub compare-rows-spec : {M : Type 1} → statement M
+compare-rows-spec = tie.close (tie.spec first-difference-requires returns returns-2)
