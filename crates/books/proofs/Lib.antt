@@ -2,6 +2,13 @@ pub mod TableCounts
 pub mod Counts
 pub mod Refusals
 pub mod OneOutcome
+pub mod Said
+pub mod BookSizes
+pub mod ClearCases
+pub mod RowRecordCases
+pub mod Steps
+pub mod Arcs
+pub mod TableCountCases
 pub mod Differences
 pub mod Checks
 pub mod Runs

@@ -12,6 +12,10 @@ pub record After : Type 0 where
   pub journals : List ℕ
   pub rows : List ℕ
 
+-- its number, the journal book and the row book, as one value
+abbrev pub after : ℕ → List ℕ → List ℕ → After
+after n jb rb = record { number = n; journals = jb; rows = rb }
+
 -- Clear: 1.
 abbrev pub clearRefusals : List ℕ → List ℕ → List Refusal
 clearRefusals jb rb = record { holds = not (rightSizes jb rb); number = wrongSize } ∷ []

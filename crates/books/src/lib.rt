@@ -1,6 +1,28 @@
-// The books: what the calls answer. The calls themselves follow.
-
+// The books: the calls on a journal book and a row book that the caller lends. Each call's promise is one equation with a
+// definition of specs/, and holds for every input.
+mod answer;
 mod difference;
+pub mod number;
+mod size;
+mod walk;
+
+ghost use mathlib.Core.Path.{_≡_};
+ghost use Rattle.books.specs.Clear.{after, clearCall};
+ghost use Rattle.books.specs.TableCount.{tableCountCall};
+ghost use Rattle.books.specs.RowRecord.{rowRecordCall, rowRecordNumberCall};
+use number::DAMAGED;
+use number::DONE;
+use number::WRONG_ROW;
+use number::WRONG_SIZE;
+use number::WRONG_STEP;
+use records::ROW_BOOK;
+use records::ROW_RECORD;
+use records::ROWS;
+use size::right_sizes;
+use walk::Walked;
+use walk::count_at;
+use walk::walk_to;
+use words::STEP_CODES;
 
 // What a count answers: a number of document 01, and the count.
 pub struct Counted {
@@ -14,4 +36,58 @@ pub struct Checked {
     pub book: u8,
     pub at: usize,
     pub byte: usize,
+}
+
+// Clears both books: every byte of them becomes zero.
+pub fn clear(journals: &mut [u8], rows: &mut [u8]) -> u8
+    ensures { λ r. ⌜ after r (now (journals .exit)) (now (rows .exit)) ≡ clearCall (now (journals .entry)) (now (rows .entry)) ⌝ }
+{
+    if !right_sizes(journals, rows) {
+        return WRONG_SIZE;
+    }
+    fill::zero_all(journals);
+    fill::zero_all(rows);
+    DONE
+}
+
+// Counts a word by the row book alone: walks from row 0 along the word's steps, and answers the last row's count.
+pub fn table_count(rows: &[u8], word: &[u8]) -> Counted
+    ensures { λ r. ⌜ r ≡ tableCountCall (now (rows .entry)) (now (word .entry)) ⌝ }
+{
+    if rows.len() != ROW_BOOK {
+        return Counted::refused(WRONG_SIZE);
+    }
+    if !journal::all_below(word, STEP_CODES) {
+        return Counted::refused(WRONG_STEP);
+    }
+    match walk_to(rows, word) {
+        Walked::Row(r) => Counted::done(count_at(rows, r)),
+        Walked::Nowhere => Counted::done(0),
+        Walked::Damage => Counted::refused(DAMAGED),
+    }
+}
+
+// The 64 bytes of a row record, as a part of the lent row book itself; a part of length 0 where the row's number is refused.
+pub fn row_record(rows: &[u8], row: usize) -> &[u8]
+    ensures { λ r. ⌜ now r ≡ rowRecordCall (now (rows .entry)) row ⌝ }
+{
+    if row_record_number(rows, row) != DONE {
+        return &rows[..0];
+    }
+    let end = ROW_RECORD * (row + 1);
+    let start = end - ROW_RECORD;
+    &rows[start..end]
+}
+
+// The number that goes with a row record of the same row book and row.
+pub fn row_record_number(rows: &[u8], row: usize) -> u8
+    ensures { λ r. ⌜ r ≡ rowRecordNumberCall (now (rows .entry)) row ⌝ }
+{
+    if rows.len() != ROW_BOOK {
+        WRONG_SIZE
+    } else if ROWS <= row {
+        WRONG_ROW
+    } else {
+        DONE
+    }
 }

@@ -12,7 +12,7 @@ ghost use Rattle.records.specs.StepBytes.{stepsForm};
 ghost use Rattle.records.specs.JournalBook.{recordForm, wrongRecord, firstWrongRecord};
 
 // Whether each byte is below a limit.
-fn all_below(b: &[u8], limit: u8) -> bool
+pub fn all_below(b: &[u8], limit: u8) -> bool
     ensures { λ r. ⌜ r ≡ allBelow limit (now (b .entry)) ⌝ }
 {
     let mut i = 0;

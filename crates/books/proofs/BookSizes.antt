@@ -1,0 +1,18 @@
+-- The test of both sizes by its cases: a journal book of the right size leaves it to the row book, and one of another size
+-- is enough to fail. Assumes nothing.
+use Prim.Native.Nat.{ℕ}
+use mathlib.Core.Path.{_≡_}
+use mathlib.Core.Bool.{false}
+use mathlib.Core.List.{List}
+use lib.ListN.{length}
+use lib.Dec.{eqb}
+use borrow.Author.Tests.{eq-eqb, ne-eqb}
+use Rattle.records.specs.Sizes.{journalBookSize, rowBookSize}
+use Rattle.records.specs.Sound.{rightSizes}
+
+module _ (jb rb : List ℕ) where
+  pub journals-sized : length jb ≡ journalBookSize → rightSizes jb rb ≡ eqb (length rb) rowBookSize
+  journals-sized e = rw (eq-eqb (length jb) journalBookSize e)
+
+  pub journals-wrong : (length jb ≡ journalBookSize → ⊥) → rightSizes jb rb ≡ false
+  journals-wrong n = rw (ne-eqb (length jb) journalBookSize n)
