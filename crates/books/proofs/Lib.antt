@@ -9,6 +9,7 @@ pub mod RowRecordCases
 pub mod Steps
 pub mod Arcs
 pub mod TableCountCases
+pub mod JournalCountCases
 pub mod Differences
 pub mod Checks
 pub mod Runs

@@ -9,19 +9,25 @@ mod walk;
 ghost use mathlib.Core.Path.{_≡_};
 ghost use Rattle.books.specs.Clear.{after, clearCall};
 ghost use Rattle.books.specs.TableCount.{tableCountCall};
+ghost use Rattle.books.specs.JournalCount.{journalCountCall};
 ghost use Rattle.books.specs.RowRecord.{rowRecordCall, rowRecordNumberCall};
 use number::DAMAGED;
 use number::DONE;
 use number::WRONG_ROW;
 use number::WRONG_SIZE;
 use number::WRONG_STEP;
+use number::WRONG_WORD;
+use records::JOURNAL_BOOK;
+use records::LONGEST_WORD;
 use records::ROW_BOOK;
 use records::ROW_RECORD;
 use records::ROWS;
+use records::WORD_RECORD;
 use size::right_sizes;
 use walk::Walked;
 use walk::count_at;
 use walk::walk_to;
+use words::JOURNALS;
 use words::STEP_CODES;
 
 // What a count answers: a number of document 01, and the count.
@@ -65,6 +71,26 @@ pub fn table_count(rows: &[u8], word: &[u8]) -> Counted
         Walked::Nowhere => Counted::done(0),
         Walked::Damage => Counted::refused(DAMAGED),
     }
+}
+
+// Counts a word by the journal book alone: in how many journals the word of a word record is.
+pub fn journal_count(journals: &[u8], word_record: &[u8]) -> Counted
+    ensures { λ r. ⌜ r ≡ journalCountCall (now (journals .entry)) (now (word_record .entry)) ⌝ }
+{
+    if journals.len() != JOURNAL_BOOK {
+        return Counted::refused(WRONG_SIZE);
+    }
+    if word_record.len() != WORD_RECORD {
+        return Counted::refused(WRONG_SIZE);
+    }
+    if !journal::steps_form(word_record, LONGEST_WORD) {
+        return Counted::refused(WRONG_WORD);
+    }
+    if journal::first_wrong_record(journals) != JOURNALS {
+        return Counted::refused(DAMAGED);
+    }
+    let end = 1 + word_record[0] as usize;
+    Counted::done(journal::count_in(journals, &word_record[1..end]))
 }
 
 // The 64 bytes of a row record, as a part of the lent row book itself; a part of length 0 where the row's number is refused.
