@@ -17,16 +17,17 @@ use Rattle.words.proofs.Members.{picture-ascending, picture-members}
 use Rattle.words.proofs.Place.{Short, short, held-count}
 use Rattle.words.proofs.Rows.{row-is, row-width}
 
-length-two : (ns : List ℕ) → length (twoBytes ns) ≡ 2 * length ns
+-- two bytes for each number
+pub length-two : (ns : List ℕ) → length (twoBytes ns) ≡ 2 * length ns
 length-two [] = refl
 length-two (n ∷ ns) = omega (arith, length-two ns)
 
-two-low : (ns : List ℕ) (k : ℕ) → k < length ns → getD (twoBytes ns) (2 * k) 0 ≡ getD ns k 0 % 256
+pub two-low : (ns : List ℕ) (k : ℕ) → k < length ns → getD (twoBytes ns) (2 * k) 0 ≡ getD ns k 0 % 256
 two-low [] k h = absurd (omega arith)
 two-low (n ∷ ns) zero h = refl
 two-low (n ∷ ns) (suc k) h = let e : 2 * suc k ≡ suc (suc (2 * k)) = omega arith in rw e (two-low ns k (omega arith))
 
-two-high : (ns : List ℕ) (k : ℕ) → k < length ns → getD (twoBytes ns) (1 + 2 * k) 0 ≡ getD ns k 0 / 256
+pub two-high : (ns : List ℕ) (k : ℕ) → k < length ns → getD (twoBytes ns) (1 + 2 * k) 0 ≡ getD ns k 0 / 256
 two-high [] k h = absurd (omega arith)
 two-high (n ∷ ns) zero h = refl
 two-high (n ∷ ns) (suc k) h = let e : 1 + 2 * suc k ≡ suc (suc (1 + 2 * k)) = omega arith in rw e (two-high ns k (omega arith))

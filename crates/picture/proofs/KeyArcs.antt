@@ -1,0 +1,97 @@
+-- The rows drawn from the table of keys are those of the picture: a key stepped is the key of the state stepped, and the rank of a row's key among
+-- the rows' keys, which ascend as the rows do, is the row's number. So a row drawn behind the first i rows is row i. Assumes nothing.
+use Prim.Native.Nat.{ℕ, zero, suc, _+_, _*_, _≤_, _<_}
+use native.Mathlib.Omega.{arith}
+use mathlib.Core.Path.{_≡_, refl, sym, ap, ap₂, _∙_}
+use mathlib.Core.List.{List, [], _∷_, _++_, map, List·Memᴰ, Memᴰ·map}
+use lib.ListN.{length, take, drop, getD}
+use Rattle.words.specs.Order.{Ascending}
+use Rattle.words.specs.Words.{AreJournals}
+use Rattle.words.specs.Places.{step, live, held}
+use Rattle.words.specs.Picture.{codes, steps, picture, rowOf, arc, arcs}
+use Rattle.words.proofs.Members.{picture-ascending}
+use Rattle.words.proofs.Place.{Short, short}
+use Rattle.words.proofs.Rows.{at-mem, step-row, row-width}
+use Rattle.words.proofs.Steps.{step-length}
+use Rattle.words.proofs.Test.{test}
+use Rattle.records.specs.Bytes.{records}
+use Rattle.records.specs.RowBook.{placeBytes, rowBytes}
+use Rattle.records.proofs.Keys.{Widths, key-at, key-back, key-length, keys-ascending, row-keys}
+use Rattle.records.proofs.RowBook.{filled, filled-on}
+use Rattle.table.specs.Keys.{rankOf}
+use Rattle.table.proofs.Ranks.{rank-row}
+use Rattle.table.proofs.Records.{records-at}
+use Rattle.picture.specs.Nexts.{Tabled}
+use Rattle.picture.specs.Stepped.{steppedKey}
+use Rattle.picture.specs.RowParts.{bytesOf, keyArc, keyArcs}
+use Rattle.picture.proofs.Stepped.{stepped-key}
+
+-- the keys of the picture's rows
+abbrev pub rowKeys : List (List ℕ) → List (List ℕ)
+rowKeys js = map placeBytes (picture js)
+
+module _ (js : List (List ℕ)) (are : AreJournals js) where
+  each-short : Short js
+  each-short = short js (are .each)
+
+  widths : Widths (length js) (picture js)
+  widths a m = row-width js each-short a m
+
+  -- they ascend
+  pub row-keys-ascending : Ascending (rowKeys js)
+  row-keys-ascending = keys-ascending (length js) (picture js) widths (picture-ascending js)
+
+  -- the rank of one of them is the row's number
+  key-rank : (a : List ℕ) → List·Memᴰ a (picture js) → rankOf (placeBytes a) (rowKeys js) ≡ rowOf a 0 (picture js)
+  key-rank a m =
+      rank-row (placeBytes a) (rowKeys js) row-keys-ascending (Memᴰ·map placeBytes m)
+      ∙ row-keys (length js) a (picture js) (widths a m) widths 0
+
+  module _ (nexts : List ℕ) (tabled : Tabled js nexts) where
+    module _ (a : List ℕ) (m : List·Memᴰ a (picture js)) where
+      row-back : take (length js) (placeBytes a) ≡ a
+      row-back = rw (← widths a m) (key-back a)
+
+      stepped : (s : ℕ) → s < 16 → steppedKey nexts (length js) (placeBytes a) s ≡ placeBytes (step js a s)
+      stepped s b =
+          let room : length js ≤ length (placeBytes a) = omega (arith, are .few, widths a m, key-length a (omega (arith, are .few, widths a m))) in
+          stepped-key js are nexts tabled (placeBytes a) s room b ∙ ap (λ (q : List ℕ). placeBytes (step js q s)) row-back
+
+      -- the arc of a row's key under a step is the row's
+      pub key-arc : (s : ℕ) → s < 16 → keyArc nexts (length js) (rowKeys js) (placeBytes a) s ≡ arc js (picture js) a s
+      unfolding keyArc
+      key-arc s b =
+          let q = step js a s in
+          let t : take (length js) (placeBytes q) ≡ q = rw (← step-length js a s (widths a m)) (key-back q) in
+          rw (stepped s b, t) (test (live q) (λ y. rw y (key-rank q (step-row js each-short a m s b y))) (λ n. rw n))
+
+      arcs-from : (i n : ℕ) → i + n ≡ 16 → keyArcs nexts (length js) (rowKeys js) (placeBytes a) (codes i n) ≡ arcs js (picture js) a (codes i n)
+      unfolding keyArcs
+      arcs-from i zero e = refl
+      arcs-from i (suc n) e = ap₂ (λ (x : ℕ) (l : List ℕ). x ∷ l) (key-arc i (omega arith)) (arcs-from (suc i) n (omega arith))
+
+      -- the record made of a row's key is the row's
+      pub key-row : bytesOf (placeBytes a) (keyArcs nexts (length js) (rowKeys js) (placeBytes a) steps) (held (take (length js) (placeBytes a))) ≡ rowBytes js a
+      unfolding bytesOf
+      key-row = rw (arcs-from 0 16 refl, row-back)
+
+    module _ (k n : ℕ) (t : List ℕ) (ek : k ≡ length js) (en : n ≡ length (picture js)) (ks : records 16 n t ≡ rowKeys js) (i : ℕ) (b : i < n) where
+      abbrev Key : List ℕ
+      Key = take 16 (drop (16 * i) t)
+
+      abbrev Drawn : List ℕ
+      Drawn = bytesOf Key (keyArcs nexts k (records 16 n t) Key steps) (held (take k Key))
+
+      within : i < length (picture js)
+      within = omega arith
+
+      key-is : Key ≡ placeBytes (getD (picture js) i [])
+      key-is = sym (records-at 16 n t i b) ∙ ap (λ (l : List (List ℕ)). getD l i []) ks ∙ key-at (picture js) i [] within
+
+      -- the record made of key i of a table of all rows' keys is that of row i
+      table-row : Drawn ≡ rowBytes js (getD (picture js) i [])
+      table-row = rw (ek, ks, key-is) (key-row (getD (picture js) i []) (at-mem (picture js) i within))
+
+      -- it is written behind the first i rows
+      pub draws : n ≤ 1000 → (rows : List ℕ) → rows ≡ filled js i → take (64 * i) rows ++ (Drawn ++ drop (64 * i + 64) rows) ≡ filled js (i + 1)
+      draws most rows e = rw (e, table-row) (filled-on js each-short (are .few) (omega arith) i within)

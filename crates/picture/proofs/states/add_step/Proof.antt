@@ -1,0 +1,39 @@
+-- `picture::states::add_step` meets its contract: if the stepped key is live, `insert` puts it in; if it isn't, the keys stay. Assumes nothing.
+use mathlib.Core.Path.{sym, ap, _∙_}
+use lib.ListN.{length}
+use borrow.Author.Needs.{needs}
+use Rattle.records.specs.Bytes.{records}
+use Rattle.table.proofs.Records.{length-records}
+use Rattle.picture.specs.Stepped.{steppedKey}
+use Rattle.picture.proofs.Added.{goes-in, stays-out}
+use Rattle.picture.proofs.states.add_step.Statement.{statement}
+use Rattle.picture.proofs.states.add_step.Tie as tie
+
+step-key-requires : tie.Need-step-key-requires
+step-key-requires c κs = search needs
+
+is-live-requires : tie.Need-is-live-requires
+is-live-requires c κs = search needs
+
+insert-requires : tie.Need-insert-requires
+insert-requires c κs = search needs
+
+same-length : tie.Need-same-length
+same-length c = search needs
+
+returns : tie.Need-returns
+returns c =
+    let a = c .before .before .before .before .before .before .before .before .before .args in
+    let e = goes-in (a .k) (c .before .before .before .before .before .before .step-key .result) (steppedKey (a .nexts .now) (a .k) (a .key) (a .s)) (records 16 (a .n) (a .t .now)) (c .before .before .before .before .before .before .step-key .ensures) (sym (c .before .before .before .before .before .is-live .ensures) ∙ c .before .before .before .before .if1 .taken) in
+    (c .before .before .insert .ensures .0 ∙ e, c .before .before .insert .ensures .1 ∙ ap length e)
+
+returns-2 : tie.Need-returns-2
+returns-2 c =
+    let a = c .before .before .before .before .before .args in
+    let e = stays-out (a .k) (c .before .before .step-key .result) (steppedKey (a .nexts .now) (a .k) (a .key) (a .s)) (records 16 (a .n) (a .t .now)) (c .before .before .step-key .ensures) (sym (c .before .is-live .ensures) ∙ c .if1 .left) in
+    (e, sym (length-records 16 (a .n) (a .t .now)) ∙ ap length e)
+
+pub add-step-spec : {M : Type 1} → statement M
+add-step-spec =
+    tie.close
+    (tie.spec step-key-requires is-live-requires insert-requires same-length returns returns-2)

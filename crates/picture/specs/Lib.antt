@@ -1,0 +1,5 @@
+pub mod Nexts
+pub mod Stepped
+pub mod Found
+pub mod RowParts
+pub mod Drawn

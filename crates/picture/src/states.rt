@@ -1,0 +1,71 @@
+// The search for the live states: a sorted table, swept once in ascending order. A live state that a step leads to stands
+// after the state that it comes from, so that the sweep meets it later.
+
+use crate::state::is_live;
+use crate::state::step_key;
+use records::ROWS;
+use table::KEY;
+use words::STEP_CODES;
+ghost use mathlib.Core.Path.{_≡_};
+ghost use mathlib.Core.Bool.{true};
+ghost use Prim.Native.Nat.{_+_, _*_, _≤_, _<_};
+ghost use lib.ListN.{length};
+ghost use Rattle.words.specs.Order.{Ascending};
+ghost use Rattle.records.specs.Bytes.{records};
+ghost use Rattle.records.specs.JournalBook.{journalForm, journalsOf};
+ghost use Rattle.picture.specs.Nexts.{Tabled};
+ghost use Rattle.picture.specs.Stepped.{steppedKey, withKey};
+ghost use Rattle.picture.specs.Found.{Sweeping, Swept, Found};
+
+// Puts the state that the step s leads to from a key into the table, if it is live. Returns how many keys there are then.
+fn add_step(nexts: &[u8], k: usize, t: &mut [u8], n: usize, key: [u8; 16], s: u8) -> usize
+    requires { ⌜ (length (now nexts) ≡ 51456) × (k ≤ 16) × (s < 16) × (16 * n + 16 ≤ length (now t)) × (n ≤ 1000) × Ascending (records 16 n (now t)) ⌝ }
+    ensures after { λ r. ⌜ records 16 r (now (t .exit)) ≡ withKey k (steppedKey (now (nexts .entry)) k key s) (records 16 n (now (t .entry))) ⌝ }
+    ensures many { λ r. ⌜ r ≡ length (withKey k (steppedKey (now (nexts .entry)) k key s) (records 16 n (now (t .entry)))) ⌝ }
+{
+    let to = step_key(nexts, k, key, s);
+    if is_live(k, to) {
+        return table::insert(t, n, to);
+    }
+    n
+}
+
+// Puts in all live states that lead on from row i. Returns how many keys there are then, 1,001 if they are too many.
+fn grow_row(journals: &[u8], nexts: &[u8], t: &mut [u8], n: usize, i: usize) -> usize
+    requires { ⌜ (journalForm (now journals) ≡ true) × (length (now nexts) ≡ 51456) × Tabled (journalsOf (now journals)) (now nexts) × (length (now t) ≡ 16016) × (i < n) × Sweeping (journalsOf (now journals)) i 0 n (now t) ⌝ }
+    ensures { λ r. ⌜ Swept (journalsOf (now (journals .entry))) (i + 1) r (now (t .exit)) ⌝ }
+{
+    let k = journal::open_count(journals);
+    let key = table::key_at(t, KEY * i);
+    let mut m = n;
+    let mut s: u8 = 0;
+    while s < STEP_CODES {
+        m = add_step(nexts, k, t, m, key, s);
+        if ROWS < m {
+            return m;
+        }
+        s += 1;
+    }
+    m
+}
+
+// Finds all live states and puts their keys into the table, ascending. Returns how many there are, 1,001 if they are too many.
+pub fn find_states(journals: &[u8], nexts: &[u8], t: &mut [u8]) -> usize
+    requires { ⌜ (journalForm (now journals) ≡ true) × (length (now nexts) ≡ 51456) × Tabled (journalsOf (now journals)) (now nexts) × (length (now t) ≡ 16016) ⌝ }
+    ensures { λ r. ⌜ Found (journalsOf (now (journals .entry))) r (now (t .exit)) ⌝ }
+{
+    if journal::open_count(journals) == 0 {
+        return 0;
+    }
+    table::put(t, 0, [0u8; 16]);
+    let mut n = 1;
+    let mut i = 0;
+    while i < n {
+        n = grow_row(journals, nexts, t, n, i);
+        if ROWS < n {
+            return n;
+        }
+        i += 1;
+    }
+    n
+}
