@@ -11,6 +11,10 @@ pub mod Arcs
 pub mod TableCountCases
 pub mod JournalCountCases
 pub mod Differences
+pub mod CheckCases
 pub mod Checks
+pub mod OpenCases
+pub mod AppendCases
+pub mod Putting
 pub mod Runs
 pub mod Breaks

@@ -1,7 +1,9 @@
-// What a count answers, when it is done and when it is refused.
+// What a count answers, when it is done and when it is refused, and what the check answers of a whole record.
 ghost use mathlib.Core.Path.{_≡_};
 ghost use Rattle.books.specs.Numbers.{done};
+ghost use Rattle.books.specs.Check.{checked};
 ghost use Rattle.books.specs.TableCount.{counted};
+use crate::Checked;
 use crate::Counted;
 use crate::number::DONE;
 
@@ -21,5 +23,19 @@ impl Counted {
         ensures { λ r. ⌜ r ≡ counted number 0 ⌝ }
     {
         Self { number, count: 0 }
+    }
+}
+
+impl Checked {
+    // A number with a book and a record, at byte 0.
+    pub(crate) fn at(number: u8, book: u8, at: usize) -> Self
+        ensures { λ r. ⌜ r ≡ checked number book at 0 ⌝ }
+    {
+        Self {
+            number,
+            book,
+            at,
+            byte: 0,
+        }
     }
 }

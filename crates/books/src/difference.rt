@@ -1,13 +1,18 @@
 // Where a row book first differs from the picture.
 
 use crate::Checked;
+use crate::number::DAMAGED;
+use crate::number::DONE;
+use records::ROW_BOOK;
 use records::ROW_RECORD;
 use records::ROWS;
 ghost use mathlib.Core.Path.{_≡_};
 ghost use Prim.Native.Nat.{_+_, _*_, _<_};
 ghost use lib.ListN.{length};
 ghost use Rattle.records.specs.Bytes.{differ};
-ghost use Rattle.books.specs.Check.{compared};
+ghost use mathlib.Core.Bool.{true};
+ghost use Rattle.records.specs.JournalBook.{journalForm, journalsOf};
+ghost use Rattle.books.specs.Check.{compared, checkRows};
 
 // A row and a byte in it.
 pub(crate) struct Spot {
@@ -48,16 +53,24 @@ pub(crate) fn compare_rows(rows: &[u8], picture: &[u8]) -> Checked
     let spot = first_difference(rows, picture);
     if spot.row < ROWS {
         return Checked {
-            number: 2,
+            number: DAMAGED,
             book: 2,
             at: spot.row,
             byte: spot.byte,
         };
     }
-    Checked {
-        number: 0,
-        book: 0,
-        at: 0,
-        byte: 0,
+    Checked::at(DONE, 0, 0)
+}
+
+// What the check says of a row book whose journals have their form.
+pub(crate) fn check_rows(journals: &[u8], rows: &[u8]) -> Checked
+    requires { ⌜ (journalForm (now journals) ≡ true) × (length (now rows) ≡ 64000) ⌝ }
+    ensures { λ r. ⌜ r ≡ checkRows (journalsOf (now (journals .entry))) (now (rows .entry)) ⌝ }
+{
+    let mut drawn = [0u8; ROW_BOOK];
+    let found = picture::draw(journals, &mut drawn);
+    if ROWS < found {
+        return Checked::at(DAMAGED, 2, ROWS);
     }
+    compare_rows(rows, &drawn)
 }

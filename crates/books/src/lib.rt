@@ -1,22 +1,33 @@
 // The books: the calls on a journal book and a row book that the caller lends. Each call's promise is one equation with a
 // definition of specs/, and holds for every input.
 mod answer;
+mod appending;
 mod difference;
 pub mod number;
+mod opening;
 mod size;
 mod walk;
 
 ghost use mathlib.Core.Path.{_≡_};
 ghost use Rattle.books.specs.Clear.{after, clearCall};
+ghost use Rattle.books.specs.Open.{openCall};
+ghost use Rattle.books.specs.Append.{appendCall};
 ghost use Rattle.books.specs.TableCount.{tableCountCall};
 ghost use Rattle.books.specs.JournalCount.{journalCountCall};
+ghost use Rattle.books.specs.Check.{checkCall};
 ghost use Rattle.books.specs.RowRecord.{rowRecordCall, rowRecordNumberCall};
+use appending::decide_append;
+use appending::with_step;
+use difference::check_rows;
 use number::DAMAGED;
 use number::DONE;
+use number::ROWS_FULL;
 use number::WRONG_ROW;
 use number::WRONG_SIZE;
 use number::WRONG_STEP;
 use number::WRONG_WORD;
+use opening::decide_open;
+use opening::write_open;
 use records::JOURNAL_BOOK;
 use records::LONGEST_WORD;
 use records::ROW_BOOK;
@@ -56,6 +67,35 @@ pub fn clear(journals: &mut [u8], rows: &mut [u8]) -> u8
     DONE
 }
 
+// Opens the next journal, an empty one, behind the others.
+pub fn open(journals: &mut [u8], rows: &mut [u8]) -> u8
+    ensures { λ r. ⌜ after r (now (journals .exit)) (now (rows .exit)) ≡ openCall (now (journals .entry)) (now (rows .entry)) ⌝ }
+{
+    let number = decide_open(journals, rows);
+    if number != DONE {
+        return number;
+    }
+    write_open(journals, rows);
+    DONE
+}
+
+// Appends a step to the journal opened last.
+pub fn append(journals: &mut [u8], rows: &mut [u8], step: u8) -> u8
+    ensures { λ r. ⌜ after r (now (journals .exit)) (now (rows .exit)) ≡ appendCall (now (journals .entry)) (now (rows .entry)) step ⌝ }
+{
+    let number = decide_append(journals, rows, step);
+    if number != DONE {
+        return number;
+    }
+    let mut longer = [0u8; JOURNAL_BOOK];
+    with_step(journals, &mut longer, step);
+    if ROWS < picture::draw(&longer, rows) {
+        return ROWS_FULL;
+    }
+    fill::copy_all(&longer, journals);
+    DONE
+}
+
 // Counts a word by the row book alone: walks from row 0 along the word's steps, and answers the last row's count.
 pub fn table_count(rows: &[u8], word: &[u8]) -> Counted
     ensures { λ r. ⌜ r ≡ tableCountCall (now (rows .entry)) (now (word .entry)) ⌝ }
@@ -91,6 +131,20 @@ pub fn journal_count(journals: &[u8], word_record: &[u8]) -> Counted
     }
     let end = 1 + word_record[0] as usize;
     Counted::done(journal::count_in(journals, &word_record[1..end]))
+}
+
+// Checks both books: whether they are sound, and if not, where the first fault is.
+pub fn check(journals: &[u8], rows: &[u8]) -> Checked
+    ensures { λ r. ⌜ r ≡ checkCall (now (journals .entry)) (now (rows .entry)) ⌝ }
+{
+    if !right_sizes(journals, rows) {
+        return Checked::at(WRONG_SIZE, 0, 0);
+    }
+    let wrong = journal::first_wrong_record(journals);
+    if wrong != JOURNALS {
+        return Checked::at(DAMAGED, 1, wrong);
+    }
+    check_rows(journals, rows)
 }
 
 // The 64 bytes of a row record, as a part of the lent row book itself; a part of length 0 where the row's number is refused.

@@ -4,15 +4,15 @@ use Prim.Native.Nat.{ℕ, zero, suc, _+_, _-_, _*_, _≤_, _<_}
 use native.Mathlib.Omega.{arith}
 use mathlib.Core.Path.{_≡_, refl, sym, ap, ap₂, _∙_}
 use mathlib.Core.List.{List, [], _∷_, _++_, append-assoc, append-nil}
-use lib.ListN.{length, set, replicate, length-append, replicate-append-replicate}
+use lib.ListN.{length, getD, set, replicate, length-append, replicate-append-replicate}
 use lib.Seq.{set-at, append-snoc}
-use Rattle.words.specs.Journals.{opened, appendedAt, stepsAt, appended, lastOf}
+use Rattle.words.specs.Journals.{opened, appendedAt, stepsAt}
 use Rattle.words.specs.Words.{EachJournal, AreJournals}
 use Rattle.words.proofs.Journals.{length-appended-at}
 use Rattle.records.specs.Bytes.{flat}
 use Rattle.records.specs.JournalBook.{journalRecord, journalBook}
 use Rattle.records.specs.StepBytes.{stepBytes}
-use Rattle.records.proofs.Flat.{length-flat, flat-snoc}
+use Rattle.records.proofs.Flat.{flat-at, length-flat, flat-snoc}
 use Rattle.records.proofs.Form.{record-length, each-wide}
 
 -- a byte behind a list is set behind it
@@ -56,13 +56,16 @@ steps-on (suc i) s (j ∷ js) z k h l =
     let rest : List ℕ = flat journalRecord js ++ z in
     rw (e, f, append-assoc (journalRecord j) (flat journalRecord js) z, append-assoc (journalRecord j) (flat journalRecord (appendedAt i s js)) z, set-behind (journalRecord j) rest 256 (256 * i + (2 + n)) s w, set-behind (journalRecord j) (set rest (256 * i + (2 + n)) s) 256 (256 * i + 1) (n + 1) w, steps-on i s js z (k .1) (omega arith) l)
 
--- the book with one step more at the last journal's end
-pub append-bytes : (s : ℕ) (js : List (List ℕ)) → AreJournals js → 0 < length js → stepsAt (lastOf js) js < 200
-    → set (set (journalBook js) (256 * lastOf js + (2 + stepsAt (lastOf js) js)) s) (256 * lastOf js + 1) (stepsAt (lastOf js) js + 1) ≡ journalBook (appended s js)
-unfolding journalBook appended
-append-bytes s js k h l =
-    let e = length-appended-at (lastOf js) s js in
-    rw e (steps-on (lastOf js) s js (replicate (256 * (16 - length js)) 0) (k .each) (omega arith) l)
+-- the book with one step more at the end of journal i
+pub append-bytes : (i s : ℕ) (js : List (List ℕ)) → AreJournals js → i < length js → stepsAt i js < 200
+    → set (set (journalBook js) (256 * i + (2 + stepsAt i js)) s) (256 * i + 1) (stepsAt i js + 1) ≡ journalBook (appendedAt i s js)
+unfolding journalBook
+append-bytes i s js k h l = rw (length-appended-at i s js) (steps-on i s js (replicate (256 * (16 - length js)) 0) (k .each) h l)
+
+-- the byte that holds the length of journal i
+pub length-byte : (i : ℕ) (js : List (List ℕ)) → AreJournals js → i < length js → getD (journalBook js) (256 * i + 1) 0 ≡ stepsAt i js
+unfolding journalBook journalRecord stepBytes
+length-byte i js k h = flat-at journalRecord 256 js (replicate (256 * (16 - length js)) 0) (each-wide js (k .each)) i 1 h (omega arith)
 
 -- an empty journal's record begins with the byte that says open, and has zeros behind it
 empty-record : (z : List ℕ) (m : ℕ) → z ≡ replicate m 0 → journalRecord [] ++ z ≡ 1 ∷ replicate (255 + m) 0

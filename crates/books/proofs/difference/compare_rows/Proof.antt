@@ -2,7 +2,7 @@
 -- Assumes nothing.
 use borrow.Author.Needs.{needs}
 use native.Mathlib.Omega.{arith}
-use mathlib.Core.Path.{sym}
+use mathlib.Core.Path.{sym, _∙_}
 use Rattle.books.proofs.Differences.{compared-differs, compared-same}
 use Rattle.books.proofs.difference.compare_rows.Statement.{statement}
 use Rattle.books.proofs.difference.compare_rows.Tie as tie
@@ -16,11 +16,14 @@ returns c =
     let f = c .before .before .first-difference in
     sym (compared-differs (a .rows .now) (a .picture .now) (f .result .row) (f .result .byte) (f .ensures .0) (f .ensures .1) (omega arith) (c .if1 .taken))
 
+at-requires : tie.Need-at-requires
+at-requires c κs = search needs
+
 returns-2 : tie.Need-returns-2
 returns-2 c =
-    let a = c .before .before .before .before .before .args in
-    let f = c .before .before .first-difference in
-    sym (compared-same (a .rows .now) (a .picture .now) (f .result .row) (f .result .byte) (f .ensures .0) (f .ensures .1) (omega arith) (omega arith) (c .if1 .left))
+    let a = c .before .before .before .before .before .before .args in
+    let f = c .before .before .before .first-difference in
+    c .at .ensures ∙ sym (compared-same (a .rows .now) (a .picture .now) (f .result .row) (f .result .byte) (f .ensures .0) (f .ensures .1) (omega arith) (omega arith) (c .before .if1 .left))
 
 pub compare-rows-spec : {M : Type 1} → statement M
-compare-rows-spec = tie.close (tie.spec first-difference-requires returns returns-2)
+compare-rows-spec = tie.close (tie.spec first-difference-requires returns at-requires returns-2)

@@ -1,0 +1,49 @@
+-- A step put at the end of a journal that has room for it: where the bytes stand, and the book after it. Assumes nothing.
+use Prim.Native.Nat.{ℕ, _+_, _-_, _*_, _<_}
+use native.Mathlib.Omega.{arith}
+use mathlib.Core.Path.{_≡_, sym, ap, _∙_}
+use mathlib.Core.Bool.{true}
+use mathlib.Core.List.{List}
+use lib.ListN.{length, getD, set}
+use Rattle.words.specs.Journals.{appendedAt, appended, lastOf, stepsAt}
+use Rattle.records.specs.JournalBook.{journalForm, journalsOf, journalBook}
+use Rattle.records.proofs.Form.{form-book, book-length}
+use Rattle.records.proofs.Writing.{append-bytes, length-byte}
+
+-- the book has its size, the journal is one of sixteen, and its length byte leaves room
+pub record Room (b : List ℕ) (i : ℕ) : Type 0 where
+  pub size : length b ≡ 4096
+  pub within : i < 16
+  pub steps : getD b (256 * i + 1) 0 < 200
+
+module _ (b : List ℕ) (t : journalForm b ≡ true) (i : ℕ) (h : i < length (journalsOf b)) (l : stepsAt i (journalsOf b) < 200) where
+  byte : getD b (256 * i + 1) 0 ≡ stepsAt i (journalsOf b)
+  byte =
+      let f = form-book b t in
+      ap (λ (c : List ℕ). getD c (256 * i + 1) 0) (f .1) ∙ length-byte i (journalsOf b) (f .0) h
+
+  pub room-at : Room b i
+  unfolding byte
+  room-at =
+      let f = form-book b t in
+      record { size = ap length (f .1) ∙ book-length (journalsOf b) (f .0); within = omega (arith, f .0 .few); steps = omega (arith, byte) }
+
+  -- the step behind the others, and one more in the length byte
+  pub put-book : (s : ℕ) → set (set b (256 * i + (2 + getD b (256 * i + 1) 0)) s) (256 * i + 1) (getD b (256 * i + 1) 0 + 1) ≡ journalBook (appendedAt i s (journalsOf b))
+  unfolding byte
+  put-book s =
+      let f = form-book b t in
+      let n : ℕ = stepsAt i (journalsOf b) in
+      ap (λ (m : ℕ). set (set b (256 * i + (2 + m)) s) (256 * i + 1) (m + 1)) byte
+      ∙ ap (λ (c : List ℕ). set (set c (256 * i + (2 + n)) s) (256 * i + 1) (n + 1)) (f .1)
+      ∙ append-bytes i s (journalsOf b) (f .0) h l
+
+-- at the last journal of a copy
+module _ (jb b : List ℕ) (k : ℕ) (e : b ≡ jb) (f : k ≡ length (journalsOf jb)) where
+  pub last-room : journalForm jb ≡ true → 0 < length (journalsOf jb) → stepsAt (lastOf (journalsOf jb)) (journalsOf jb) < 200
+      → (journalForm b ≡ true) × (k - 1 < length (journalsOf b)) × (stepsAt (k - 1) (journalsOf b) < 200)
+  last-room t z l = rw (e, f) (t, omega arith, l)
+
+  pub last-put : (s : ℕ) → journalBook (appendedAt (k - 1) s (journalsOf b)) ≡ journalBook (appended s (journalsOf jb))
+  unfolding appended
+  last-put s = rw (e, f)
