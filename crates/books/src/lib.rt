@@ -103,7 +103,7 @@ pub fn table_count(rows: &[u8], word: &[u8]) -> Counted
     if rows.len() != ROW_BOOK {
         return Counted::refused(WRONG_SIZE);
     }
-    if !journal::all_below(word, STEP_CODES) {
+    if !fill::all_below(word, STEP_CODES) {
         return Counted::refused(WRONG_STEP);
     }
     match walk_to(rows, word) {

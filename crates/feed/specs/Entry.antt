@@ -5,9 +5,10 @@ use mathlib.Core.List.{List, [], _∷_}
 use lib.ListN.{length}
 use lib.Dec.{eqb, ltb, leb}
 use Rattle.words.specs.Limits.{stepCodes}
-use Rattle.books.specs.Numbers.{done, brokenEntry, unless}
-use Rattle.records.specs.JournalBook.{journalsOf}
-use Rattle.books.specs.Clear.{After}
+use Rattle.records.specs.Sizes.{journalBookSize}
+use Rattle.books.specs.Numbers.{Refusal, first, done, wrongSize, damaged, brokenEntry, unless}
+use Rattle.records.specs.JournalBook.{journalForm, journalsOf}
+use Rattle.books.specs.Clear.{After, after}
 use Rattle.books.specs.Open.{openCall}
 use Rattle.books.specs.Append.{appendCall}
 
@@ -35,18 +36,28 @@ unfoldable pub openThenAppend : List ℕ → List ℕ → ℕ → After
 openThenAppend jb rb s =
     let o : After = openCall jb rb in
     let a : After = appendCall (o .journals) (o .rows) s in
-    let both : After = record { number = a .number; journals = unless (a .number) (a .journals) jb; rows = unless (a .number) (a .rows) rb } in
+    let both : After = after (a .number) (unless (a .number) (a .journals) jb) (unless (a .number) (a .rows) rb) in
     cond (eqb (o .number) done) both o
 
 unfoldable pub enter : Entry → List ℕ → List ℕ → After
-enter broken jb rb = record { number = brokenEntry; journals = jb; rows = rb }
+enter broken jb rb = after brokenEntry jb rb
 enter (append-entry s) jb rb = appendCall jb rb s
 enter open-entry jb rb = openCall jb rb
 enter (open-append-entry s) jb rb = openThenAppend jb rb s
 
+-- the numbers of a journal book that isn't one; the program's own books never have them
+abbrev pub bookRefusals : List ℕ → List Refusal
+bookRefusals jb =
+    record { holds = not (eqb (length jb) journalBookSize); number = wrongSize }
+    ∷ record { holds = not (journalForm jb); number = damaged }
+    ∷ []
+
 -- one entry: a journal number and a step
 unfoldable pub entryCall : List ℕ → List ℕ → ℕ → ℕ → After
-entryCall jb rb n s = enter (entryOf (length (journalsOf jb)) n s) jb rb
+entryCall jb rb n s =
+    let number : ℕ = first (bookRefusals jb) in
+    let entered : After = enter (entryOf (length (journalsOf jb)) n s) jb rb in
+    cond (eqb number done) entered (after number jb rb)
 
 -- what a row of entries leaves: how many were taken, and the number of the refusal that ended it, or 0
 pub record Fed : Type 0 where

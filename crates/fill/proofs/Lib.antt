@@ -1,1 +1,2 @@
 pub mod Zeroing
+pub mod Below

@@ -1,7 +1,8 @@
-// Filling lent bytes: with zeros, or with other bytes.
+// Lent bytes: filled with zeros or with other bytes, and tested.
 
 ghost use mathlib.Core.Path.{_≡_};
 ghost use lib.ListN.{length, replicate};
+ghost use Rattle.records.specs.Bytes.{allBelow};
 
 // Makes every byte zero.
 pub fn zero_all(bytes: &mut [u8])
@@ -24,4 +25,18 @@ pub fn copy_all(source: &[u8], bytes: &mut [u8])
         bytes[i] = source[i];
         i += 1;
     }
+}
+
+// Whether each byte is below a limit.
+pub fn all_below(b: &[u8], limit: u8) -> bool
+    ensures { λ r. ⌜ r ≡ allBelow limit (now (b .entry)) ⌝ }
+{
+    let mut i = 0;
+    while i < b.len() {
+        if limit <= b[i] {
+            return false;
+        }
+        i += 1;
+    }
+    true
 }

@@ -1,5 +1,6 @@
 // The form of bytes that hold steps, of a journal record, and of the journal book.
 
+use fill::all_below;
 use records::JOURNAL_RECORD;
 use words::JOURNALS;
 use words::LONGEST_JOURNAL;
@@ -7,23 +8,8 @@ use words::STEP_CODES;
 ghost use mathlib.Core.Path.{_≡_};
 ghost use Prim.Native.Nat.{_<_};
 ghost use lib.ListN.{length};
-ghost use Rattle.records.specs.Bytes.{allBelow};
 ghost use Rattle.records.specs.StepBytes.{stepsForm};
 ghost use Rattle.records.specs.JournalBook.{recordForm, wrongRecord, firstWrongRecord};
-
-// Whether each byte is below a limit.
-pub fn all_below(b: &[u8], limit: u8) -> bool
-    ensures { λ r. ⌜ r ≡ allBelow limit (now (b .entry)) ⌝ }
-{
-    let mut i = 0;
-    while i < b.len() {
-        if limit <= b[i] {
-            return false;
-        }
-        i += 1;
-    }
-    true
-}
 
 // Whether bytes are a length, as many steps, and zeros behind.
 pub fn steps_form(b: &[u8], most: usize) -> bool

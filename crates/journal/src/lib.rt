@@ -7,6 +7,5 @@ mod steps;
 pub use book::count_in;
 pub use book::journal_at;
 pub use book::open_count;
-pub use form::all_below;
 pub use form::first_wrong_record;
 pub use form::steps_form;

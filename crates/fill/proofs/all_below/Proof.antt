@@ -1,13 +1,13 @@
--- `journal::form::all_below` meets its contract. The invariant: i is at most the length, and the bytes from i on say what all of them say, since those
+-- `fill::all_below` meets its contract. The invariant: i is at most the length, and the bytes from i on say what all of them say, since those
 -- before i are below the limit. The measure is what is left of the length. Assumes nothing.
 use mathlib.Core.Path.{_≡_, sym, _∙_}
 use Prim.Native.Nat.{_-_, _≤_}
 use lib.ListN.{length, drop}
 use Rattle.records.specs.Bytes.{allBelow}
-use Rattle.journal.proofs.Below.{below-on, below-stop, below-end}
+use Rattle.fill.proofs.Below.{below-on, below-stop, below-end}
 use borrow.Author.Needs.{needs}
-use Rattle.journal.proofs.form.all_below.Statement.{statement}
-use Rattle.journal.proofs.form.all_below.Tie as tie
+use Rattle.fill.proofs.all_below.Statement.{statement}
+use Rattle.fill.proofs.all_below.Tie as tie
 
 abbrev Inv-loop : tie.InvT-loop
 Inv-loop b limit i₀ i = (i ≤ length b) × (allBelow limit b ≡ allBelow limit (drop i b))
