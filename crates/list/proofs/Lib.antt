@@ -2,3 +2,13 @@ pub mod Complete
 pub mod Parts
 pub mod Numbers
 pub mod Breaks
+pub mod FromOn
+pub mod Climb
+pub mod Moves
+pub mod RecordBytes
+pub mod Pasted
+pub mod Ends
+pub mod Paging
+pub mod Tabled
+pub mod ListCases
+pub mod Came

@@ -1,63 +1,30 @@
 -- Fetched in parts, the parts joined are the list: a part is the front of what is due, what is due is an end of the
 -- whole list, and so what stands after the part's last word is what is left of it. Assumes nothing.
-use Prim.Native.Nat.{ℕ, zero, suc, _≤_, _<_, _/_, _%_}
+use Prim.Native.Nat.{ℕ, zero, suc, _≤_, _<_, _/_}
 use native.Mathlib.Omega.{arith}
 use mathlib.Core.Path.{_≡_, refl, sym, ap, ap₂, _∙_}
-use mathlib.Core.Bool.{Bool, true, false, not, _||_, false≢true}
+use mathlib.Core.Bool.{Bool, true, false}
 use mathlib.Core.List.{List, [], _∷_, _++_, map, append-assoc, List·Memᴰ, List·Memᴰ·head, List·Memᴰ·tail, Memᴰ·append-left, Memᴰ·append-right}
 use lib.ListN.{length, drop, length-take, length-drop, take-append-drop}
 use lib.Seq.{take-at, drop-at, take-all, append-snoc}
-use lib.Dec.{eqb, ltb}
-use borrow.Author.Tests.{ltb-true, ltb-false, le-ltb, eq-eqb, not-false}
+use lib.Dec.{ltb}
+use borrow.Author.Tests.{ltb-true, ltb-false, le-ltb, eq-eqb}
 use Rattle.list.specs.ListCall.{Asked, wrongOutput, wholeList, due, fitting, listCall}
 use Rattle.list.specs.Parts.{wordsIn, lastWord, goOn, Fetched, last-part, one-part}
 use Rattle.records.specs.Bytes.{records, flat}
-use Rattle.records.specs.JournalBook.{journalsOf}
 use Rattle.records.specs.Sizes.{wordRecordSize, longestWord}
-use Rattle.records.specs.Sound.{rightSizes, sound}
 use Rattle.records.specs.WordRecord.{wordOf, wordRecord}
 use Rattle.words.specs.Listing.{past}
 use Rattle.words.specs.Words.{IsWord}
-use Rattle.books.proofs.Refusals.{pass}
 use Rattle.list.proofs.Complete.{Admitted, list-complete, list-in-order}
+use Rattle.list.proofs.ListCases.{Allowed, allowed}
 use Rattle.records.proofs.StepBytes.{steps-back, step-bytes-length, step-bytes-form}
 use Rattle.words.proofs.Past.{past-suffix, past-at}
 use Rattle.words.proofs.Test.{test}
 
-neither : (s t : Bool) → s || t ≡ false → (s ≡ false) × (t ≡ false)
-neither true t e = absurd (false≢true (sym e))
-neither false t e = (refl, e)
-
 -- how many records the output has room for
 abbrev room : Asked → ℕ
 room a = length (a .out) / wordRecordSize
-
--- what a call that is done was given
-record Allowed (a : Asked) : Type 0 where
-  sizes : rightSizes (a .journals) (a .rows) ≡ true
-  right : sound (a .journals) (a .rows) ≡ true
-  limit : a .length-limit ≤ longestWord
-  quorum : (ltb (a .quorum) 1 || ltb (length (journalsOf (a .journals))) (a .quorum)) ≡ false
-  some-room : 1 ≤ room a
-
-allowed : (a : Asked) → listCall a .answer .number ≡ 0 → Allowed a
-unfolding listCall
-allowed a e =
-    let books : Bool = not (rightSizes (a .journals) (a .rows)) in
-    let word : Bool = not (eqb (length (a .word)) wordRecordSize) in
-    let p = pass (books || (word || wrongOutput (a .out))) 0 _ e in
-    let q = pass (not (sound (a .journals) (a .rows))) 1 _ (p .1) in
-    let r = pass (ltb longestWord (a .length-limit)) 8 _ (q .1) in
-    let k = pass (ltb (a .quorum) 1 || ltb (length (journalsOf (a .journals))) (a .quorum)) 7 _ (r .1) in
-    let o = neither word (wrongOutput (a .out)) (neither books _ (p .0) .1) .1 in
-    let s = neither (ltb (length (a .out)) wordRecordSize) _ (neither (not (eqb (length (a .out) % wordRecordSize) 0)) _ o .1) .0 in
-    record {
-      sizes = not-false _ (neither books _ (p .0) .0);
-      right = not-false _ (q .0);
-      limit = ltb-false _ _ (r .0);
-      quorum = k .0;
-      some-room = omega (arith, ltb-false (length (a .out)) wordRecordSize s);
-    }
 
 -- what is due is an end of the whole list
 due-suffix : (a : Asked) → (front : List (List ℕ)) × (wholeList a ≡ front ++ due a)

@@ -1,2 +1,4 @@
 pub mod ListCall
 pub mod Parts
+pub mod Next
+pub mod Moving

@@ -32,6 +32,17 @@ pub record Asked : Type 0 where
   pub word : List ℕ
   pub out : List ℕ
 
+abbrev pub asked : List ℕ → List ℕ → ℕ → ℕ → Bool → List ℕ → List ℕ → Asked
+asked jb rb q n after r out = record {
+  journals = jb;
+  rows = rb;
+  quorum = q;
+  length-limit = n;
+  after = after;
+  word = r;
+  out = out;
+}
+
 -- List: 1, 2, 9, 8, 10. The word record's size is always tested, its content only for "after".
 abbrev pub listRefusals : Asked → List Refusal
 listRefusals a =
@@ -47,8 +58,11 @@ abbrev pub wholeList : Asked → List (List ℕ)
 wholeList a = listOf (count (journalsOf (a .journals))) (a .quorum) (a .length-limit)
 
 -- the list from there on: from the start, or what stands after the word, which need not be in the list itself
+abbrev pub dueIn : List (List ℕ) → Bool → List ℕ → List (List ℕ)
+dueIn l after r = cond after (past (wordOf r) l) l
+
 abbrev pub due : Asked → List (List ℕ)
-due a = cond (a .after) (past (wordOf (a .word)) (wholeList a)) (wholeList a)
+due a = dueIn (wholeList a) (a .after) (a .word)
 
 -- the first words from there on, as many as fit or as remain
 abbrev pub fitting : Asked → List (List ℕ)
@@ -58,6 +72,9 @@ fitting a = take (length (a .out) / wordRecordSize) (due a)
 pub record Wrote : Type 0 where
   pub answer : Listed
   pub out : List ℕ
+
+abbrev pub wrote : Listed → List ℕ → Wrote
+wrote r out = record { answer = r; out = out }
 
 -- one record each, every word in its own 16 bytes of the output; bytes after the last one stay
 abbrev pub written : List (List ℕ) → List ℕ → List ℕ
