@@ -1,1 +1,13 @@
 pub mod Example
+pub mod OneOutcome
+pub mod Decimals
+pub mod Spaced
+pub mod AskCases
+pub mod Asking
+pub mod EntryCases
+pub mod EmptyCount
+pub mod Taking
+pub mod Entries
+pub mod FeedCases
+pub mod LiveCount
+pub mod LiveRows

@@ -5,6 +5,7 @@ use mathlib.Core.List.{List, [], _∷_}
 use lib.ListN.{length, getD}
 use lib.Dec.{eqb, ltb}
 use Rattle.records.specs.Sizes.{longestWord}
+use Rattle.feed.specs.declared.ask.Ask.{Ask}
 use Rattle.books.specs.Numbers.{Refusal, first, wrongQuorum, wrongLength, wrongAsk, unless}
 
 -- Empty or missing: quorum k, length 8.
@@ -17,21 +18,24 @@ quorumOf k ask = cond (eqb (length ask) 0) k (getD ask 0 0)
 abbrev pub lengthOf : List ℕ → ℕ
 lengthOf ask = cond (eqb (length ask) 0) defaultLength (getD ask 1 0)
 
--- an ask file of 1 byte, or of 3 or more: 12; then 9, then 8
-abbrev pub askRefusals : ℕ → List ℕ → List Refusal
-askRefusals k ask =
-    record { holds = not (eqb (length ask) 0 || eqb (length ask) 2); number = wrongAsk }
-    ∷ record { holds = ltb longestWord (lengthOf ask); number = wrongLength }
-    ∷ record { holds = ltb (quorumOf k ask) 1 || ltb k (quorumOf k ask); number = wrongQuorum }
+-- then 9, then 8
+abbrev pub limitRefusals : ℕ → ℕ → ℕ → List Refusal
+limitRefusals k quorum limit =
+    record { holds = ltb longestWord limit; number = wrongLength }
+    ∷ record { holds = ltb quorum 1 || ltb k quorum; number = wrongQuorum }
     ∷ []
 
+-- an ask file of 1 byte, or of 3 or more: 12; then those
+abbrev pub askRefusals : ℕ → List ℕ → List Refusal
+askRefusals k ask =
+    record { holds = not (eqb (length ask) 0 || eqb (length ask) 2); number = wrongAsk } ∷ limitRefusals k (quorumOf k ask) (lengthOf ask)
+
 -- what the ask says
-pub record Ask : Type 0 where
-  pub number : ℕ
-  pub quorum : ℕ
-  pub length-limit : ℕ
+abbrev pub answer : ℕ → ℕ → ℕ → Ask
+answer n quorum limit = record { number = n; quorum = unless n quorum 0; limit = unless n limit 0 }
+
+unfoldable pub askOf : ℕ → ℕ → ℕ → Ask
+askOf k quorum limit = answer (first (limitRefusals k quorum limit)) quorum limit
 
 unfoldable pub askCall : ℕ → List ℕ → Ask
-askCall k ask =
-    let n : ℕ = first (askRefusals k ask) in
-    record { number = n; quorum = unless n (quorumOf k ask) 0; length-limit = unless n (lengthOf ask) 0 }
+askCall k ask = answer (first (askRefusals k ask)) (quorumOf k ask) (lengthOf ask)

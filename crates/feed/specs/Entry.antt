@@ -2,13 +2,14 @@
 use Prim.Native.Nat.{ℕ, zero, suc, _+_}
 use mathlib.Core.Bool.{Bool, true, false, cond, not, _&&_, _||_}
 use mathlib.Core.List.{List, [], _∷_}
-use lib.ListN.{length}
+use lib.ListN.{length, getD}
 use lib.Dec.{eqb, ltb, leb}
 use Rattle.words.specs.Limits.{stepCodes}
 use Rattle.records.specs.Sizes.{journalBookSize}
 use Rattle.books.specs.Numbers.{Refusal, first, done, wrongSize, damaged, brokenEntry, unless}
 use Rattle.records.specs.JournalBook.{journalForm, journalsOf}
 use Rattle.books.specs.Clear.{After, after}
+use Rattle.feed.specs.declared.Fed.{Fed}
 use Rattle.books.specs.Open.{openCall}
 use Rattle.books.specs.Append.{appendCall}
 
@@ -59,21 +60,29 @@ entryCall jb rb n s =
     let entered : After = enter (entryOf (length (journalsOf jb)) n s) jb rb in
     cond (eqb number done) entered (after number jb rb)
 
+-- the entry at a byte of the entries; a lone last byte is broken
+unfoldable pub takenAt : List ℕ → List ℕ → List ℕ → ℕ → After
+takenAt jb rb entries at =
+    cond (leb (length entries) (at + 1)) (after brokenEntry jb rb) (entryCall jb rb (getD entries at 0) (getD entries (at + 1) 0))
+
 -- what a row of entries leaves: how many were taken, and the number of the refusal that ended it, or 0
-pub record Fed : Type 0 where
+pub record AfterFeeding : Type 0 where
   pub number : ℕ
   pub taken : ℕ
   pub journals : List ℕ
   pub rows : List ℕ
 
+abbrev pub fed : Fed → List ℕ → List ℕ → AfterFeeding
+fed r jb rb = record { number = r .number; taken = r .taken; journals = jb; rows = rb }
+
 -- the entries of two bytes, one by one, up to the first that is refused; a lone last byte is refused with 11
-unfoldable pub feedFrom : ℕ → List ℕ → List ℕ → List ℕ → Fed
+unfoldable pub feedFrom : ℕ → List ℕ → List ℕ → List ℕ → AfterFeeding
 feedFrom i jb rb [] = record { number = done; taken = i; journals = jb; rows = rb }
 feedFrom i jb rb (n ∷ []) = record { number = brokenEntry; taken = i; journals = jb; rows = rb }
 feedFrom i jb rb (n ∷ s ∷ rest) =
     let a : After = entryCall jb rb n s in
-    let on : Fed = feedFrom (suc i) (a .journals) (a .rows) rest in
+    let on : AfterFeeding = feedFrom (suc i) (a .journals) (a .rows) rest in
     cond (eqb (a .number) done) on (record { number = a .number; taken = i; journals = jb; rows = rb })
 
-unfoldable pub feedCall : List ℕ → List ℕ → List ℕ → Fed
+unfoldable pub feedCall : List ℕ → List ℕ → List ℕ → AfterFeeding
 feedCall jb rb entries = feedFrom 0 jb rb entries

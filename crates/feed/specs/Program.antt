@@ -10,8 +10,9 @@ use Rattle.words.specs.Listing.{listOf}
 use Rattle.records.specs.Sizes.{journalBookSize, rowBookSize}
 use Rattle.books.specs.Numbers.{done}
 use Rattle.records.specs.JournalBook.{journalsOf}
-use Rattle.feed.specs.Entry.{Fed, feedCall}
-use Rattle.feed.specs.Ask.{Ask, askCall}
+use Rattle.feed.specs.Entry.{AfterFeeding, feedCall}
+use Rattle.feed.specs.Ask.{askCall}
+use Rattle.feed.specs.declared.ask.Ask.{Ask}
 use Rattle.feed.specs.Text.{firstLine, wordLine, lastLine, refusedEntryLine, refusedAskLine}
 
 -- a line for each word
@@ -22,7 +23,7 @@ wordLines js (w ∷ ws) = wordLine (count js w) w ++ wordLines js ws
 -- the journals' lines: k and the live rows, the list by the ask's quorum and length, the number of words
 abbrev pub report : List (List ℕ) → Ask → List ℕ
 report js a =
-    let ws : List (List ℕ) = listOf (count js) (a .quorum) (a .length-limit) in
+    let ws : List (List ℕ) = listOf (count js) (a .quorum) (a .limit) in
     firstLine (length js) (length (picture js)) ++ wordLines js ws ++ lastLine (length ws)
 
 -- The ask is looked at only after every entry was taken.
@@ -32,7 +33,7 @@ answered js a = let lines = report js a in cond (eqb (a .number) done) lines (re
 -- It reads the entries into cleared books, then the ask, and prints.
 unfoldable pub printed : List ℕ → List ℕ → List ℕ
 printed entries ask =
-    let fed : Fed = feedCall (replicate journalBookSize 0) (replicate rowBookSize 0) entries in
+    let fed : AfterFeeding = feedCall (replicate journalBookSize 0) (replicate rowBookSize 0) entries in
     let js : List (List ℕ) = journalsOf (fed .journals) in
     let lines = answered js (askCall (length js) ask) in
     cond (eqb (fed .number) done) lines (refusedEntryLine (fed .number) (fed .taken))

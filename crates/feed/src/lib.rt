@@ -1,1 +1,44 @@
-// What the loading program does with entries and the ask, and the text that it prints. The functions follow.
+// What the loading program does with its input: entries, the ask, and the text of a line. It relies on the promises of
+// `books` alone.
+
+mod ask;
+mod entry;
+mod live;
+mod reader;
+mod text;
+
+use entry::take_at;
+ghost use mathlib.Core.Path.{_≡_};
+ghost use Rattle.feed.specs.Entry.{fed, feedCall};
+pub use ask::Ask;
+pub use ask::read_ask;
+pub use entry::enter;
+pub use live::live_rows;
+pub use text::first_line;
+pub use text::last_line;
+pub use text::refused_ask_line;
+pub use text::refused_entry_line;
+pub use text::word_line;
+
+// How many entries were taken, and the number of the refusal that ended them, or 0.
+pub struct Fed {
+    pub number: u8,
+    pub taken: usize,
+}
+
+// Takes a row of entries one by one, up to the first that is refused.
+pub fn feed(journals: &mut [u8], rows: &mut [u8], entries: &[u8]) -> Fed
+    ensures { λ r. ⌜ fed r (now (journals .exit)) (now (rows .exit)) ≡ feedCall (now (journals .entry)) (now (rows .entry)) (now (entries .entry)) ⌝ }
+{
+    let mut taken = 0;
+    let mut at = 0;
+    while at < entries.len() {
+        let number = take_at(journals, rows, entries, at);
+        if number != 0 {
+            return Fed { number, taken };
+        }
+        taken += 1;
+        at += 2;
+    }
+    Fed { number: 0, taken }
+}

@@ -1,0 +1,83 @@
+-- An entry is taken whole or not at all: a refused one leaves both books. And from the books of journals, an entry leads to the
+-- books of journals. Assumes nothing.
+use Prim.Native.Nat.{ℕ, zero, suc}
+use mathlib.Core.Path.{_≡_, refl}
+use mathlib.Core.Bool.{Bool, true, false, cond}
+use mathlib.Core.List.{List}
+use lib.ListN.{length}
+use lib.Dec.{eqb}
+use Rattle.records.specs.JournalBook.{journalsOf}
+use Rattle.records.specs.Sound.{BooksOf}
+use Rattle.books.specs.Numbers.{first, unless}
+use Rattle.books.specs.Clear.{After, after}
+use Rattle.books.specs.Open.{openCall}
+use Rattle.books.specs.Append.{appendCall}
+use Rattle.books.specs.Runs.{opens, appends}
+use Rattle.books.proofs.Refusals.{refused, call-refused}
+use Rattle.books.proofs.Runs.{call-keeps}
+use Rattle.feed.specs.Entry.{Entry, broken, append-entry, open-entry, open-append-entry, entryOf, openThenAppend, enter, bookRefusals, entryCall}
+
+-- refused, it leaves the books jb and rb
+abbrev Whole : List ℕ → List ℕ → After → Type 0
+Whole jb rb a = (a .number ≡ 0 → ⊥) → (a .journals ≡ jb) × (a .rows ≡ rb)
+
+-- it leaves the books of some journals
+abbrev Kept : After → Type 0
+Kept a = (ks : List (List ℕ)) × BooksOf ks (a .journals) (a .rows)
+
+either : (P : After → Type 0) (b : Bool) (x y : After) → P x → P y → P (cond b x y)
+either P true x y p q = p
+either P false x y p q = q
+
+kept-unless : (n : ℕ) (a b : After) → Kept a → Kept b → Kept (after n (unless n (a .journals) (b .journals)) (unless n (a .rows) (b .rows)))
+kept-unless zero a b p q = p
+kept-unless (suc n) a b p q = q
+
+module _ (jb rb : List ℕ) where
+  open-append-whole : (s : ℕ) → Whole jb rb (openThenAppend jb rb s)
+  unfolding openThenAppend
+  open-append-whole s =
+      let o : After = openCall jb rb in
+      let a : After = appendCall (o .journals) (o .rows) s in
+      let both : After = after (a .number) (unless (a .number) (a .journals) jb) (unless (a .number) (a .rows) rb) in
+      either (Whole jb rb) (eqb (o .number) 0) both o (λ h. (refused (a .number) (a .journals) jb h, refused (a .number) (a .rows) rb h)) (call-refused opens jb rb)
+
+  enter-whole : (e : Entry) → Whole jb rb (enter e jb rb)
+  unfolding enter
+  enter-whole broken h = (refl, refl)
+  enter-whole (append-entry s) h = call-refused (appends s) jb rb h
+  enter-whole open-entry h = call-refused opens jb rb h
+  enter-whole (open-append-entry s) h = open-append-whole s h
+
+  -- a refused entry leaves both books
+  pub entry-whole : (n s : ℕ) → (entryCall jb rb n s .number ≡ 0 → ⊥) → (entryCall jb rb n s .journals ≡ jb) × (entryCall jb rb n s .rows ≡ rb)
+  unfolding entryCall
+  entry-whole n s =
+      let m : ℕ = first (bookRefusals jb) in
+      let e : Entry = entryOf (length (journalsOf jb)) n s in
+      either (Whole jb rb) (eqb m 0) (enter e jb rb) (after m jb rb) (enter-whole e) (λ h. (refl, refl))
+
+module _ (js : List (List ℕ)) (jb rb : List ℕ) (b : BooksOf js jb rb) where
+  open-append-keeps : (s : ℕ) → Kept (openThenAppend jb rb s)
+  unfolding openThenAppend
+  open-append-keeps s =
+      let o : After = openCall jb rb in
+      let a : After = appendCall (o .journals) (o .rows) s in
+      let both : After = after (a .number) (unless (a .number) (a .journals) jb) (unless (a .number) (a .rows) rb) in
+      let ko = call-keeps js jb rb b opens in
+      either Kept (eqb (o .number) 0) both o (kept-unless (a .number) a (after 0 jb rb) (_, call-keeps _ (o .journals) (o .rows) ko (appends s)) (js, b)) (_, ko)
+
+  enter-keeps : (e : Entry) → Kept (enter e jb rb)
+  unfolding enter
+  enter-keeps broken = (js, b)
+  enter-keeps (append-entry s) = (_, call-keeps js jb rb b (appends s))
+  enter-keeps open-entry = (_, call-keeps js jb rb b opens)
+  enter-keeps (open-append-entry s) = open-append-keeps s
+
+  -- from the books of journals, an entry leads to the books of journals
+  pub entry-keeps : (n s : ℕ) → (ks : List (List ℕ)) × BooksOf ks (entryCall jb rb n s .journals) (entryCall jb rb n s .rows)
+  unfolding entryCall
+  entry-keeps n s =
+      let m : ℕ = first (bookRefusals jb) in
+      let e : Entry = entryOf (length (journalsOf jb)) n s in
+      either Kept (eqb m 0) (enter e jb rb) (after m jb rb) (enter-keeps e) (js, b)

@@ -1,0 +1,109 @@
+// One entry: what it asks for, and what it does to the books.
+
+use crate::reader::Read;
+use crate::reader::read_entry;
+use books::number::BROKEN_ENTRY;
+use books::number::DONE;
+use books::number::WRONG_SIZE;
+use records::JOURNAL_BOOK;
+use records::ROW_BOOK;
+use records::WORD_RECORD;
+use words::STEP_CODES;
+ghost use mathlib.Core.Path.{_≡_};
+ghost use Prim.Native.Nat.{_<_};
+ghost use lib.ListN.{length};
+ghost use Rattle.books.specs.Clear.{after};
+ghost use Rattle.feed.specs.Entry.{entryOf, openThenAppend, entryCall, takenAt};
+ghost use Rattle.feed.specs.Asked.{asks};
+
+// The step that only opens.
+const ONLY_OPEN: u8 = 255;
+
+// What an entry asks for.
+pub(crate) enum Entry {
+    Broken,
+    Append(u8),
+    Open,
+    OpenAppend(u8),
+}
+
+// What a journal number and a step ask for where k journals are open.
+fn entry_of(k: usize, number: u8, step: u8) -> Entry
+    requires { ⌜ k < 256 ⌝ }
+    ensures { λ r. ⌜ asks r ≡ entryOf k number step ⌝ }
+{
+    let n = number as usize;
+    if step == ONLY_OPEN {
+        if n == k {
+            return Entry::Open;
+        }
+        return Entry::Broken;
+    }
+    if STEP_CODES <= step {
+        return Entry::Broken;
+    }
+    if n == k {
+        return Entry::OpenAppend(step);
+    }
+    if n + 1 == k {
+        return Entry::Append(step);
+    }
+    Entry::Broken
+}
+
+// Opens the next journal and appends to it, on copies of the books until both are accepted.
+fn open_then_append(journals: &mut [u8], rows: &mut [u8], step: u8) -> u8
+    ensures { λ r. ⌜ after r (now (journals .exit)) (now (rows .exit)) ≡ openThenAppend (now (journals .entry)) (now (rows .entry)) step ⌝ }
+{
+    if journals.len() != JOURNAL_BOOK {
+        return WRONG_SIZE;
+    }
+    if rows.len() != ROW_BOOK {
+        return WRONG_SIZE;
+    }
+    let mut new_journals = [0u8; JOURNAL_BOOK];
+    let mut new_rows = [0u8; ROW_BOOK];
+    fill::copy_all(journals, &mut new_journals);
+    fill::copy_all(rows, &mut new_rows);
+    let opened = books::open(&mut new_journals, &mut new_rows);
+    if opened != DONE {
+        return opened;
+    }
+    let appended = books::append(&mut new_journals, &mut new_rows, step);
+    if appended != DONE {
+        return appended;
+    }
+    fill::copy_all(&new_journals, journals);
+    fill::copy_all(&new_rows, rows);
+    DONE
+}
+
+// Takes one entry, whole or not at all. How many journals are open is the journal count of the empty word.
+pub fn enter(journals: &mut [u8], rows: &mut [u8], number: u8, step: u8) -> u8
+    ensures { λ r. ⌜ after r (now (journals .exit)) (now (rows .exit)) ≡ entryCall (now (journals .entry)) (now (rows .entry)) number step ⌝ }
+{
+    let empty = [0u8; WORD_RECORD];
+    let counted = books::journal_count(journals, &empty);
+    let wrong = counted.number;
+    if wrong != DONE {
+        return wrong;
+    }
+    match entry_of(counted.count as usize, number, step) {
+        Entry::Broken => BROKEN_ENTRY,
+        Entry::Append(s) => books::append(journals, rows, s),
+        Entry::Open => books::open(journals, rows),
+        Entry::OpenAppend(s) => open_then_append(journals, rows, s),
+    }
+}
+
+// Takes the entry that stands at a byte of the entries; a lone last byte is broken.
+pub(crate) fn take_at(journals: &mut [u8], rows: &mut [u8], entries: &[u8], at: usize) -> u8
+    requires { ⌜ at < length (now entries) ⌝ }
+    ensures { λ r. ⌜ after r (now (journals .exit)) (now (rows .exit)) ≡ takenAt (now (journals .entry)) (now (rows .entry)) (now (entries .entry)) at ⌝ }
+{
+    match read_entry(entries, at) {
+        Read::Entry(number, step) => enter(journals, rows, number, step),
+        Read::Lone => BROKEN_ENTRY,
+        Read::End => BROKEN_ENTRY,
+    }
+}
