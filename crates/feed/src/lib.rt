@@ -14,6 +14,7 @@ pub use ask::Ask;
 pub use ask::read_ask;
 pub use entry::enter;
 pub use live::live_rows;
+pub use text::Line;
 pub use text::first_line;
 pub use text::last_line;
 pub use text::refused_ask_line;

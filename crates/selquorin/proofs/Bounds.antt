@@ -1,0 +1,73 @@
+-- How large the check's record and byte can be, and how many words the list can write, so that they fit into one number.
+-- Assumes nothing.
+use Prim.Native.Nat.{ℕ, zero, suc, _*_, _+_, _/_, _%_, _≤_, _<_}
+use native.Mathlib.Omega.{arith}
+use mathlib.Core.Path.{_≡_, refl, subst, sym, ap, _∙_}
+use mathlib.Core.Bool.{Bool, true, false, not, _||_, false≢true}
+use mathlib.Core.List.{List}
+use lib.ListN.{length, take, length-take}
+use lib.Dec.{eqb, ltb}
+use borrow.Author.Tests.{ltb-false}
+use Rattle.records.specs.Sound.{rightSizes}
+use Rattle.books.specs.Numbers.{first, unless}
+use Rattle.books.specs.Check.{checkCall, Verdict, wrong-sizes, book-one, too-many, book-two, all-right}
+use Rattle.books.specs.declared.Checked.{Checked}
+use Rattle.books.proofs.BookSizes.{both-sized}
+use Rattle.books.proofs.Checks.{check-verdict}
+use Rattle.books.proofs.Refusals.{pass}
+use Rattle.list.specs.ListCall.{Asked, Wrote, wrongOutput, listRefusals, due, fitting, wrote, listCall}
+use Rattle.list.specs.declared.Listed.{Listed}
+use Rattle.selquorin.specs.Packed.{flagged, packedList}
+
+-- a record is at most 1,000, and a byte below 64
+abbrev pub Small : Checked → Type 0
+Small c = (c .at ≤ 1000) × (c .byte < 64)
+
+verdict-small : (jb rb : List ℕ) {c : Checked} → Verdict jb rb c → Small c
+verdict-small jb rb (wrong-sizes w) = (omega arith, omega arith)
+verdict-small jb rb (book-one w f) = (omega (arith, f .within), omega arith)
+verdict-small jb rb (too-many w f m) = (omega arith, omega arith)
+verdict-small jb rb (book-two {r = r} {i = i} w f m b d) = (omega (arith, d .within, both-sized jb rb w .1), b)
+verdict-small jb rb (all-right t) = (omega arith, omega arith)
+
+pub small : (jb rb : List ℕ) {c : Checked} → c ≡ checkCall jb rb → Small c
+small jb rb e = subst Small (sym e) (verdict-small jb rb (check-verdict jb rb))
+
+-- a yes or no is at most 1
+pub flag-small : (b : Bool) {f : ℕ} → f ≡ flagged b → f ≤ 1
+flag-small true e = omega (arith, e)
+flag-small false e = omega (arith, e)
+
+neither : (s t : Bool) → s || t ≡ false → (s ≡ false) × (t ≡ false)
+neither true t e = absurd (false≢true (sym e))
+neither false t e = (refl, e)
+
+-- an output that isn't refused has at most 65,536 bytes
+output-small : (a : Asked) → first (listRefusals a) ≡ 0 → length (a .out) ≤ 65536
+output-small a e =
+    let books : Bool = not (rightSizes (a .journals) (a .rows)) in
+    let size : Bool = not (eqb (length (a .word)) 16) in
+    let p = pass (books || (size || wrongOutput (a .out))) 0 _ e in
+    let o = neither size (wrongOutput (a .out)) (neither books _ (p .0) .1) .1 in
+    let s = neither (not (eqb (length (a .out) % 16) 0)) _ o .1 in
+    ltb-false 65536 (length (a .out)) (neither (ltb (length (a .out)) 16) _ s .1)
+
+fitting-few : (a : Asked) → length (a .out) ≤ 65536 → length (fitting a) ≤ 4096
+fitting-few a h = omega (arith, length-take (length (a .out) / 16) (due a))
+
+call-few : (a : Asked) → listCall a .answer .written ≤ 4096
+unfolding listCall
+call-few a = by (first (listRefusals a)) refl
+  where
+    by : (n : ℕ) → first (listRefusals a) ≡ n → unless n (length (fitting a)) 0 ≤ 4096
+    by zero e = fitting-few a (output-small a e)
+    by (suc n) e = omega arith
+
+-- the list writes at most 4,096 words
+pub few : (a : Asked) {l : Listed} {out : List ℕ} → wrote l out ≡ listCall a → l .written ≤ 4096
+few a e = subst (λ (n : ℕ). n ≤ 4096) (sym (ap (λ (w : Wrote). w .answer .written) e)) (call-few a)
+
+-- what is packed is what the list answers
+pub packed-answer : (a : Asked) (l : Listed) {out : List ℕ} {f : ℕ} → wrote l out ≡ listCall a → f ≡ flagged (l .more)
+    → l .number + 256 * f + 65536 * l .written ≡ packedList (listCall a .answer)
+packed-answer a l e m = ap (λ (f : ℕ). l .number + 256 * f + 65536 * l .written) m ∙ ap (λ (w : Wrote). packedList (w .answer)) e

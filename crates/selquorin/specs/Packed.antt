@@ -1,0 +1,22 @@
+-- Answers packed into one number, for callers in C or Rust. Assumes nothing.
+use Prim.Native.Nat.{ℕ, _+_, _*_}
+use mathlib.Core.Bool.{Bool, cond}
+use Rattle.books.specs.declared.Counted.{Counted}
+use Rattle.books.specs.declared.Checked.{Checked}
+use Rattle.list.specs.declared.Listed.{Listed}
+
+-- number + 256 · count
+abbrev pub packedCount : Counted → ℕ
+packedCount c = c .number + 256 * c .count
+
+-- number + 2^8 · book + 2^16 · record + 2^32 · byte
+abbrev pub packedCheck : Checked → ℕ
+packedCheck c = c .number + 256 * c .book + 65536 * c .at + 4294967296 * c .byte
+
+-- 1 for yes, 0 for no
+abbrev pub flagged : Bool → ℕ
+flagged b = cond b 1 0
+
+-- number + 2^8 · more + 2^16 · written
+abbrev pub packedList : Listed → ℕ
+packedList l = l .number + 256 * flagged (l .more) + 65536 * l .written

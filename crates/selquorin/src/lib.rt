@@ -1,0 +1,109 @@
+// The calls for programs in C or Rust: each is the call of its name, with its answer in one number.
+ghost use mathlib.Core.Path.{_≡_};
+ghost use mathlib.Core.Bool.{not};
+ghost use lib.Dec.{eqb};
+ghost use Rattle.books.specs.Clear.{after, clearCall};
+ghost use Rattle.books.specs.Open.{openCall};
+ghost use Rattle.books.specs.Append.{appendCall};
+ghost use Rattle.books.specs.TableCount.{tableCountCall};
+ghost use Rattle.books.specs.JournalCount.{journalCountCall};
+ghost use Rattle.books.specs.Check.{checkCall};
+ghost use Rattle.list.specs.ListCall.{asked, listCall};
+ghost use Rattle.books.specs.RowRecord.{rowRecordNumberCall};
+ghost use Rattle.selquorin.specs.Packed.{flagged, packedCount, packedCheck, packedList};
+
+// Clears both books.
+#[no_mangle]
+pub extern "C" fn selquorin_clear(journals: &mut [u8], rows: &mut [u8]) -> u8
+    ensures { λ r. ⌜ after r (now (journals .exit)) (now (rows .exit)) ≡ clearCall (now (journals .entry)) (now (rows .entry)) ⌝ }
+{
+    books::clear(journals, rows)
+}
+
+// Opens the next journal.
+#[no_mangle]
+pub extern "C" fn selquorin_open(journals: &mut [u8], rows: &mut [u8]) -> u8
+    ensures { λ r. ⌜ after r (now (journals .exit)) (now (rows .exit)) ≡ openCall (now (journals .entry)) (now (rows .entry)) ⌝ }
+{
+    books::open(journals, rows)
+}
+
+// Appends a step to the journal opened last.
+#[no_mangle]
+pub extern "C" fn selquorin_append(journals: &mut [u8], rows: &mut [u8], step: u8) -> u8
+    ensures { λ r. ⌜ after r (now (journals .exit)) (now (rows .exit)) ≡ appendCall (now (journals .entry)) (now (rows .entry)) step ⌝ }
+{
+    books::append(journals, rows, step)
+}
+
+// Counts a word by the row book: the number, and the count 256 times.
+#[no_mangle]
+pub extern "C" fn selquorin_table_count(rows: &[u8], word: &[u8]) -> u32
+    ensures { λ r. ⌜ r ≡ packedCount (tableCountCall (now (rows .entry)) (now (word .entry))) ⌝ }
+{
+    let seen = books::table_count(rows, word);
+    let number = seen.number;
+    let count = seen.count;
+    number as u32 + 256 * (count as u32)
+}
+
+// Counts a word by the journal book: the number, and the count 256 times.
+#[no_mangle]
+pub extern "C" fn selquorin_journal_count(journals: &[u8], word_record: &[u8]) -> u32
+    ensures { λ r. ⌜ r ≡ packedCount (journalCountCall (now (journals .entry)) (now (word_record .entry))) ⌝ }
+{
+    let seen = books::journal_count(journals, word_record);
+    let number = seen.number;
+    let count = seen.count;
+    number as u32 + 256 * (count as u32)
+}
+
+// Checks both books: the number, the book 2^8 times, the record 2^16 times and the byte 2^32 times.
+#[no_mangle]
+pub extern "C" fn selquorin_check(journals: &[u8], rows: &[u8]) -> u64
+    ensures { λ r. ⌜ r ≡ packedCheck (checkCall (now (journals .entry)) (now (rows .entry))) ⌝ }
+{
+    let seen = books::check(journals, rows);
+    let number = seen.number;
+    let book = seen.book;
+    let at = seen.at;
+    let byte = seen.byte;
+    number as u64 + 256 * (book as u64) + 65536 * (at as u64) + 4294967296 * (byte as u64)
+}
+
+// 1 for yes, 0 for no.
+fn flag(yes: bool) -> u64
+    ensures { λ r. ⌜ r ≡ flagged yes ⌝ }
+{
+    if yes { 1 } else { 0 }
+}
+
+// Lists words: the number, whether a further word remains 2^8 times and how many were written 2^16 times. From the start
+// if `after` is 0, else after the word of the word record.
+#[no_mangle]
+pub extern "C" fn selquorin_list(
+    journals: &[u8],
+    rows: &[u8],
+    quorum: usize,
+    length: usize,
+    after: u8,
+    word_record: &[u8],
+    out: &mut [u8],
+) -> u64
+    ensures answer { λ r. ⌜ r ≡ packedList (listCall (asked (now (journals .entry)) (now (rows .entry)) quorum length (not (eqb after 0)) (now (word_record .entry)) (now (out .entry))) .answer) ⌝ }
+    ensures output { λ _. ⌜ now (out .exit) ≡ listCall (asked (now (journals .entry)) (now (rows .entry)) quorum length (not (eqb after 0)) (now (word_record .entry)) (now (out .entry))) .out ⌝ }
+{
+    let listed = list::list(journals, rows, quorum, length, after != 0, word_record, out);
+    let number = listed.number;
+    let more = flag(listed.more);
+    let written = listed.written;
+    number as u64 + 256 * more + 65536 * (written as u64)
+}
+
+// The number that goes with a row record.
+#[no_mangle]
+pub extern "C" fn selquorin_row_record_number(rows: &[u8], row: usize) -> u8
+    ensures { λ r. ⌜ r ≡ rowRecordNumberCall (now (rows .entry)) row ⌝ }
+{
+    books::row_record_number(rows, row)
+}

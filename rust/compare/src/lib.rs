@@ -1,0 +1,350 @@
+//! Drives the proved library and the plain implementation side by side.
+//!
+//! A [`Pair`] holds every book twice. Each call is made on both, and both answers and every byte of
+//! the memory that was lent have to be the same afterwards; so have the bytes around it, which were
+//! not lent.
+
+mod kinds;
+mod random;
+mod runs;
+
+pub use kinds::{grow, near_full, Kind};
+pub use random::Random;
+pub use runs::{run, Seen};
+
+use selquorin::raw;
+use std::fmt;
+
+/// Bytes that stand behind each lent part and must never change.
+const FENCE: usize = 256;
+const FENCE_BYTE: u8 = 0xa5;
+
+/// The bytes of a journal book and of a row book.
+pub const SIZES: [usize; 2] = [4096, 64_000];
+
+/// A call, with everything that it is given but the books.
+#[derive(Clone, PartialEq, Eq)]
+pub enum Call {
+    /// Clear.
+    Clear,
+    /// Open.
+    Open,
+    /// Append a step.
+    Append(u8),
+    /// Count a word by the table.
+    TableCount(Vec<u8>),
+    /// Count the word of a word record by the journals.
+    JournalCount(Vec<u8>),
+    /// Check.
+    Check,
+    /// List.
+    List {
+        /// The quorum.
+        quorum: usize,
+        /// The length.
+        length: usize,
+        /// 0 from the start, else after the word.
+        after: u8,
+        /// The word record.
+        record: Vec<u8>,
+        /// The size of the output.
+        out: usize,
+        /// What the output holds before.
+        filled: u8,
+    },
+    /// A row record and its number.
+    Row(usize),
+}
+
+impl fmt::Debug for Call {
+    fn fmt(&self, f: &mut fmt::Formatter<'_>) -> fmt::Result {
+        match self {
+            Call::Clear => write!(f, "clear"),
+            Call::Open => write!(f, "open"),
+            Call::Append(step) => write!(f, "append {step}"),
+            Call::TableCount(word) => write!(f, "table count of {word:?}"),
+            Call::JournalCount(record) => write!(f, "journal count of record {record:?}"),
+            Call::Check => write!(f, "check"),
+            Call::List {
+                quorum,
+                length,
+                after,
+                record,
+                out,
+                filled,
+            } => write!(
+                f,
+                "list, quorum {quorum}, length {length}, after {after}, record {record:?}, \
+                 output of {out} bytes {filled}"
+            ),
+            Call::Row(row) => write!(f, "row record {row}"),
+        }
+    }
+}
+
+/// What a call answers, whichever it is.
+#[derive(Clone, Copy, Debug, PartialEq, Eq)]
+pub struct Answer {
+    /// The number of document 01.
+    pub number: u8,
+    /// Count; or book; or 1 where a further word remains.
+    pub first: usize,
+    /// Record; or how many words were written; or the length of the row record.
+    pub second: usize,
+    /// Byte.
+    pub third: usize,
+}
+
+impl Answer {
+    fn new(number: u8, first: usize, second: usize, third: usize) -> Answer {
+        Answer {
+            number,
+            first,
+            second,
+            third,
+        }
+    }
+}
+
+/// Where the two implementations differ.
+#[derive(Clone, Debug)]
+pub struct Difference(String);
+
+impl fmt::Display for Difference {
+    fn fmt(&self, f: &mut fmt::Formatter<'_>) -> fmt::Result {
+        f.write_str(&self.0)
+    }
+}
+
+/// The memory of one side: both books, each with a fence behind it.
+#[derive(Clone)]
+struct Side {
+    books: [Vec<u8>; 2],
+}
+
+impl Side {
+    fn new() -> Side {
+        Side {
+            books: SIZES.map(|size| {
+                let mut book = vec![0; size];
+                book.resize(size + FENCE, FENCE_BYTE);
+                book
+            }),
+        }
+    }
+
+    fn read(&self, sizes: [usize; 2]) -> (&[u8], &[u8]) {
+        (&self.books[0][..sizes[0]], &self.books[1][..sizes[1]])
+    }
+
+    fn write(&mut self, sizes: [usize; 2]) -> (&mut [u8], &mut [u8]) {
+        let [journals, rows] = &mut self.books;
+        (&mut journals[..sizes[0]], &mut rows[..sizes[1]])
+    }
+}
+
+/// The same books on both sides.
+#[derive(Clone)]
+pub struct Pair {
+    library: Side,
+    plain: Side,
+    /// How many bytes of each book are lent: 4,096 and 64,000, or others for a wrong size.
+    pub sizes: [usize; 2],
+    /// How many calls were made.
+    pub calls: u64,
+    /// What the list last wrote.
+    pub out: Vec<u8>,
+}
+
+impl Pair {
+    /// Cleared books.
+    pub fn new() -> Pair {
+        Pair {
+            library: Side::new(),
+            plain: Side::new(),
+            sizes: SIZES,
+            calls: 0,
+            out: Vec::new(),
+        }
+    }
+
+    /// Books of these journals with these rows, whatever they are.
+    pub fn set(&mut self, journals: &[u8], rows: &[u8]) {
+        for side in [&mut self.library, &mut self.plain] {
+            let (j, r) = side.write(SIZES);
+            j.copy_from_slice(journals);
+            r.copy_from_slice(rows);
+        }
+    }
+
+    /// A book's bytes: 0 the journal book, 1 the row book.
+    pub fn book(&self, book: usize) -> &[u8] {
+        &self.plain.books[book][..SIZES[book]]
+    }
+
+    /// Writes a byte into a book on both sides.
+    pub fn poke(&mut self, book: usize, at: usize, byte: u8) {
+        assert!(at < SIZES[book]);
+        self.library.books[book][at] = byte;
+        self.plain.books[book][at] = byte;
+    }
+
+    /// Makes a call on both sides, and compares both answers and all that was lent.
+    pub fn call(&mut self, call: &Call) -> Result<Answer, Difference> {
+        self.calls += 1;
+        let out = match call {
+            Call::List { out, filled, .. } => vec![*filled; *out],
+            _ => Vec::new(),
+        };
+        let mut outs = [out.clone(), out];
+        for out in &mut outs {
+            out.resize(out.len() + FENCE, FENCE_BYTE);
+        }
+        let lent = outs[0].len() - FENCE;
+        // The library is lent a word or a word record of its own, which it must leave as it is.
+        let given = call.clone();
+        let by_library = self.by_library(&given, &mut outs[0][..lent]);
+        let by_plain = self.by_plain(call, &mut outs[1][..lent]);
+
+        let mut said = Vec::new();
+        if by_library != by_plain {
+            said.push(format!("library {by_library:?}, plain {by_plain:?}"));
+        }
+        if given != *call {
+            said.push(format!(
+                "the library has written into what it reads: {given:?}"
+            ));
+        }
+        let [library_out, plain_out] = &outs;
+        let parts = [
+            ("journal book", &self.library.books[0], &self.plain.books[0]),
+            ("row book", &self.library.books[1], &self.plain.books[1]),
+            ("output", library_out, plain_out),
+        ];
+        for (name, a, b) in parts {
+            if a != b {
+                let at = (0..a.len()).find(|&at| a[at] != b[at]).unwrap_or(a.len());
+                said.push(format!(
+                    "{name}: first differing byte {at}, library {}, plain {}",
+                    a[at], b[at]
+                ));
+            }
+        }
+        for (name, bytes, end) in [
+            ("journal book", &self.plain.books[0], SIZES[0]),
+            ("row book", &self.plain.books[1], SIZES[1]),
+            ("output", plain_out, lent),
+        ] {
+            if bytes[end..].iter().any(|&byte| byte != FENCE_BYTE) {
+                said.push(format!("{name}: bytes behind it have changed"));
+            }
+        }
+        if !said.is_empty() {
+            let sizes = self.sizes;
+            return Err(Difference(format!(
+                "call {} ({call:?}) with books of {sizes:?} bytes: {}",
+                self.calls,
+                said.join("; ")
+            )));
+        }
+        outs[1].truncate(lent);
+        self.out = outs[1].clone();
+        Ok(by_plain)
+    }
+
+    fn by_library(&mut self, call: &Call, out: &mut [u8]) -> Answer {
+        let sizes = self.sizes;
+        let changed = |number| Answer::new(number, 0, 0, 0);
+        match call {
+            Call::Clear => {
+                let (journals, rows) = self.library.write(sizes);
+                changed(raw::clear(journals, rows))
+            }
+            Call::Open => {
+                let (journals, rows) = self.library.write(sizes);
+                changed(raw::open(journals, rows))
+            }
+            Call::Append(step) => {
+                let (journals, rows) = self.library.write(sizes);
+                changed(raw::append(journals, rows, *step))
+            }
+            Call::TableCount(word) => {
+                let answer = raw::table_count(self.library.read(sizes).1, word);
+                Answer::new(answer.number, answer.count.into(), 0, 0)
+            }
+            Call::JournalCount(record) => {
+                let answer = raw::journal_count(self.library.read(sizes).0, record);
+                Answer::new(answer.number, answer.count.into(), 0, 0)
+            }
+            Call::Check => {
+                let (journals, rows) = self.library.read(sizes);
+                let seen = raw::check(journals, rows);
+                Answer::new(seen.number, seen.book.into(), seen.record, seen.byte)
+            }
+            Call::List {
+                quorum,
+                length,
+                after,
+                record,
+                ..
+            } => {
+                let (journals, rows) = self.library.read(sizes);
+                let answer = raw::list(journals, rows, *quorum, *length, *after, record, out);
+                Answer::new(answer.number, answer.more.into(), answer.written, 0)
+            }
+            // The record itself can't cross the C interface, only its number can.
+            Call::Row(row) => changed(raw::row_record_number(self.library.read(sizes).1, *row)),
+        }
+    }
+
+    fn by_plain(&mut self, call: &Call, out: &mut [u8]) -> Answer {
+        let sizes = self.sizes;
+        let changed = |number| Answer::new(number, 0, 0, 0);
+        match call {
+            Call::Clear => {
+                let (journals, rows) = self.plain.write(sizes);
+                changed(plain::clear(journals, rows))
+            }
+            Call::Open => {
+                let (journals, rows) = self.plain.write(sizes);
+                changed(plain::open(journals, rows))
+            }
+            Call::Append(step) => {
+                let (journals, rows) = self.plain.write(sizes);
+                changed(plain::append(journals, rows, *step))
+            }
+            Call::TableCount(word) => {
+                let answer = plain::table_count(self.plain.read(sizes).1, word);
+                Answer::new(answer.number, answer.count.into(), 0, 0)
+            }
+            Call::JournalCount(record) => {
+                let answer = plain::journal_count(self.plain.read(sizes).0, record);
+                Answer::new(answer.number, answer.count.into(), 0, 0)
+            }
+            Call::Check => {
+                let (journals, rows) = self.plain.read(sizes);
+                let seen = plain::check(journals, rows);
+                Answer::new(seen.number, seen.book.into(), seen.record, seen.byte)
+            }
+            Call::List {
+                quorum,
+                length,
+                after,
+                record,
+                ..
+            } => {
+                let (journals, rows) = self.plain.read(sizes);
+                let after = *after != 0;
+                let answer = plain::list(journals, rows, *quorum, *length, after, record, out);
+                Answer::new(answer.number, answer.more.into(), answer.written, 0)
+            }
+            Call::Row(row) => changed(plain::row_record_number(self.plain.read(sizes).1, *row)),
+        }
+    }
+}
+
+impl Default for Pair {
+    fn default() -> Pair {
+        Pair::new()
+    }
+}

@@ -1,0 +1,82 @@
+//! The library and the plain implementation answer alike, and leave the same bytes, in random runs
+//! of calls. SELQUORIN_CALLS says how many calls at least (200,000), SELQUORIN_SEED the seed: a
+//! number, or `random` for another one each time.
+
+use compare::{run, Seen};
+use std::io::Write;
+use std::sync::atomic::{AtomicU64, Ordering};
+use std::sync::Mutex;
+use std::time::{SystemTime, UNIX_EPOCH};
+
+const CALLS: u64 = 200_000;
+const SEED: u64 = 1;
+
+/// Written past the test harness, so that it is seen also where all is well.
+fn say(line: &str) {
+    let _ = writeln!(std::io::stderr(), "{line}");
+}
+
+fn number(name: &str, otherwise: u64) -> u64 {
+    match std::env::var(name) {
+        Err(_) => otherwise,
+        Ok(text) if name == "SELQUORIN_SEED" && text == "random" => {
+            let since = SystemTime::now().duration_since(UNIX_EPOCH);
+            since.map_or(otherwise, |time| time.as_nanos() as u64)
+        }
+        Ok(text) => text
+            .parse()
+            .unwrap_or_else(|_| panic!("{name} isn't a number: {text}")),
+    }
+}
+
+#[test]
+fn random_runs() {
+    let seed = number("SELQUORIN_SEED", SEED);
+    let least = number("SELQUORIN_CALLS", CALLS);
+    say(&format!(
+        "compare: SELQUORIN_SEED={seed} SELQUORIN_CALLS={least}"
+    ));
+
+    let next = AtomicU64::new(0);
+    let made = AtomicU64::new(0);
+    let all = Mutex::new((Seen::default(), Vec::new()));
+    std::thread::scope(|scope| {
+        for _ in 0..2 {
+            scope.spawn(|| {
+                while made.load(Ordering::Relaxed) < least {
+                    let number = next.fetch_add(1, Ordering::Relaxed);
+                    let ran = std::panic::catch_unwind(|| run(seed, number));
+                    let mut all = all.lock().expect("no thread fails here");
+                    let difference = match ran {
+                        Err(_) => Some("one of the two panicked".to_string()),
+                        Ok((seen, calls, difference)) => {
+                            made.fetch_add(calls, Ordering::Relaxed);
+                            all.0.add(seen);
+                            difference.map(|difference| difference.to_string())
+                        }
+                    };
+                    if let Some(difference) = difference {
+                        all.1.push(format!("run {number}, {difference}"));
+                        made.fetch_add(least, Ordering::Relaxed);
+                    }
+                }
+            });
+        }
+    });
+    let (seen, differences) = all.into_inner().expect("no thread fails here");
+    for difference in &differences {
+        say(&format!("compare: SELQUORIN_SEED={seed} {difference}"));
+    }
+    assert!(differences.is_empty(), "library and plain differ");
+    for (answer, times) in &seen.0 {
+        say(&format!("compare: {times:>7} {answer}"));
+    }
+    say(&format!(
+        "compare: {} calls in {} runs, all alike",
+        made.into_inner(),
+        next.into_inner()
+    ));
+    if least >= CALLS {
+        assert_eq!(seen.missing(), Vec::<&str>::new(), "answers never seen");
+    }
+}

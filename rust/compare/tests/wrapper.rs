@@ -1,0 +1,194 @@
+//! The safe types of the crate `selquorin`, beside the plain implementation.
+
+use compare::{grow, Kind, Random};
+use plain::{journal_book, picture};
+use selquorin::{Books, Error, Step, Verdict, Word, LARGEST_PAGE};
+
+const KIND: Kind = Kind {
+    name: "small",
+    journals: 5,
+    steps: 7,
+    codes: 4,
+    equal: false,
+};
+
+/// Books made by the wrapper's calls from random journals, with these journals' books.
+fn books(random: &mut Random) -> (Books, Vec<u8>, Vec<u8>, usize) {
+    let journals = grow(random, KIND, 200);
+    let mut books = Books::new();
+    for journal in &journals {
+        books.open().unwrap();
+        for &code in journal {
+            books.append(Step::new(code).unwrap()).unwrap();
+        }
+    }
+    let rows = picture(&journals).expect("there are few enough states");
+    (books, journal_book(&journals), rows, journals.len())
+}
+
+/// The whole list by the plain implementation, in one output.
+fn plain_list(
+    journals: &[u8],
+    rows: &[u8],
+    quorum: usize,
+    length: usize,
+    after: Option<&Word>,
+) -> Vec<Word> {
+    let mut out = vec![0; 65_536];
+    let record = after.copied().unwrap_or_default().record();
+    let answer = plain::list(
+        journals,
+        rows,
+        quorum,
+        length,
+        after.is_some(),
+        &record,
+        &mut out,
+    );
+    assert_eq!((answer.number, answer.more), (0, false));
+    let records = out.chunks_exact(16).take(answer.written);
+    records.map(|r| Word::from_record(r).unwrap()).collect()
+}
+
+#[test]
+fn pages_make_the_whole_list() {
+    let mut random = Random::new(5);
+    for _ in 0..12 {
+        let (books, journals, rows, k) = books(&mut random);
+        assert_eq!(
+            (&books.journals()[..], &books.rows()[..]),
+            (&journals[..], &rows[..])
+        );
+        assert_eq!(books.check(), Verdict::Sound);
+        for quorum in 1..=k {
+            for length in [0, 1, 2, 4, 15] {
+                let wanted = plain_list(&journals, &rows, quorum, length, None);
+                let whole: Vec<Word> = books.list(quorum, length).unwrap().collect();
+                assert_eq!(whole, wanted);
+                assert!(whole.windows(2).all(|pair| pair[0] < pair[1]));
+                for page in [1, 2, 3, 7, wanted.len(), wanted.len() + 1] {
+                    let words = books.list_paged(quorum, length, None, page).unwrap();
+                    if words.size_hint().1.is_none() {
+                        assert!(page < wanted.len());
+                    }
+                    assert_eq!(words.collect::<Vec<_>>(), wanted, "pages of {page}");
+                }
+                for word in &wanted {
+                    let least = Word::new(&[random.below(16) as u8; 15][..length]).unwrap();
+                    for after in [word, &least] {
+                        let rest: Vec<Word> =
+                            books.list_after(quorum, length, after).unwrap().collect();
+                        assert_eq!(
+                            rest,
+                            plain_list(&journals, &rows, quorum, length, Some(after))
+                        );
+                    }
+                }
+                for word in &whole {
+                    let count = books.table_count(word.steps()).unwrap();
+                    assert!(usize::from(count) >= quorum);
+                    assert_eq!(books.journal_count(word), Ok(count));
+                }
+            }
+        }
+        for row in 0..1000 {
+            assert_eq!(
+                books.row(row).unwrap().bytes()[..],
+                *plain::row_record(&rows, row)
+            );
+        }
+    }
+}
+
+#[test]
+fn refusals_are_errors() {
+    let mut books = Books::new();
+    let step = Step::new(1).unwrap();
+    assert_eq!(books.append(step), Err(Error::NoJournal));
+    assert_eq!(books.list(1, 1).err(), Some(Error::WrongQuorum));
+    for _ in 0..16 {
+        books.open().unwrap();
+    }
+    assert_eq!(books.open(), Err(Error::JournalsFull));
+    for _ in 0..200 {
+        books.append(step).unwrap();
+    }
+    assert_eq!(books.append(step), Err(Error::JournalFull));
+    assert_eq!(books.list(1, 16).err(), Some(Error::WrongLength));
+    assert_eq!(books.list(17, 15).err(), Some(Error::WrongQuorum));
+    let long = Word::new(&[1, 1, 1]).unwrap();
+    assert_eq!(books.list_after(1, 2, &long).err(), Some(Error::WrongWord));
+    for page in [0, LARGEST_PAGE + 1, usize::MAX] {
+        let refused = books.list_paged(1, 2, None, page).err();
+        assert_eq!(refused, Some(Error::WrongSize));
+    }
+    assert_eq!(books.row(1000).err(), Some(Error::WrongRow));
+    assert_eq!(
+        Books::from_bytes(&[0; 4096], &[0; 63_999]),
+        Err(Error::WrongSize)
+    );
+    assert_eq!(
+        Books::from_bytes(&[0; 4097], &[0; 64_000]),
+        Err(Error::WrongSize)
+    );
+}
+
+#[test]
+fn a_full_row_book_takes_no_step_more() {
+    let kind = Kind {
+        name: "equal",
+        journals: 5,
+        steps: 200,
+        codes: 1,
+        equal: true,
+    };
+    let journals = grow(&mut Random::new(1), kind, 1000);
+    let rows = picture(&journals).expect("there are 1,000 states");
+    let mut books = Books::from_bytes(&journal_book(&journals), &rows).unwrap();
+    assert_eq!(books.check(), Verdict::Sound);
+    assert_eq!(books.row(999).unwrap().count(), 1);
+    let before = books.clone();
+    assert_eq!(
+        books.append(Step::new(journals[4][0]).unwrap()),
+        Err(Error::RowsFull)
+    );
+    assert!(books == before);
+}
+
+#[test]
+fn damage_is_found_where_it_is() {
+    let mut books = Books::new();
+    for journal in [[1, 2, 1], [1, 1, 2]] {
+        books.open().unwrap();
+        for code in journal {
+            books.append(Step::new(code).unwrap()).unwrap();
+        }
+    }
+    let sound = books.clone();
+    let word = Word::new(&[1, 2]).unwrap();
+
+    books.rows_mut()[64 * 2 + 48] = 17;
+    assert_eq!(books.check(), Verdict::RowRecord { row: 2, byte: 48 });
+    assert_eq!(books.table_count(word.steps()), Err(Error::Damaged));
+    assert_eq!(books.journal_count(&word), Ok(2));
+    assert_eq!(books.open(), Err(Error::Damaged));
+    assert_eq!(books.append(Step::default()), Err(Error::Damaged));
+    assert_eq!(books.list(1, 1).err(), Some(Error::Damaged));
+
+    books = sound.clone();
+    books.journals_mut()[256 * 3] = 1;
+    assert_eq!(books.check(), Verdict::JournalRecord { record: 3 });
+    assert_eq!(books.table_count(word.steps()), Ok(2));
+    assert_eq!(books.journal_count(&word), Err(Error::Damaged));
+
+    books = sound.clone();
+    let many: Vec<Vec<u8>> = (0..16)
+        .map(|n| (0..50).map(|i| (i * (n + 2) % 7) as u8).collect())
+        .collect();
+    books.journals_mut().copy_from_slice(&journal_book(&many));
+    assert_eq!(books.check(), Verdict::TooManyStates);
+
+    books.clear();
+    assert!(books == Books::default());
+    assert_eq!(books.check(), Verdict::Sound);
+}

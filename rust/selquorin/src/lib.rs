@@ -1,0 +1,60 @@
+//! How many journals hold a word, and which words a quorum of them shares.
+//!
+//! Up to 16 journals, each a row of up to 200 steps, stand in [`Books`]: a journal book and a row
+//! book, which holds the journals' subsequence automaton as a table. A word is *in* a journal when
+//! it is what is left of it after some of its steps, or none, are struck out. The books answer in
+//! how many journals a word is, and list the words that at least a given number of journals hold.
+//!
+//! The calls themselves are proved and come from the static library `libselquorin.a`. This crate
+//! only lends it memory: it makes wrong sizes and steps above 15 impossible by types, and turns
+//! the library's numbers into [`Error`]s and a [`Verdict`]. The module [`raw`] has the calls as
+//! they are, for bytes of any length and content.
+//!
+//! ```
+//! use selquorin::{Books, Error, Step, Verdict, Word};
+//!
+//! # fn main() -> Result<(), Error> {
+//! // Two journals: 1 2 1 and 1 1 2.
+//! let mut books = Books::new();
+//! for journal in [[1, 2, 1], [1, 1, 2]] {
+//!     books.open()?;
+//!     for code in journal {
+//!         books.append(Step::new(code)?)?;
+//!     }
+//! }
+//! assert_eq!(books.check(), Verdict::Sound);
+//!
+//! // How many journals hold a word: by the table, and from the journals alone.
+//! let word = Word::new(&[1, 2, 1])?;
+//! assert_eq!(books.table_count(word.steps())?, 1);
+//! assert_eq!(books.journal_count(&word)?, 1);
+//! assert_eq!(books.table_count(&[])?, 2);
+//!
+//! // The words of up to three steps that both journals hold, in dictionary order.
+//! let shared: Vec<String> = books.list(2, 3)?.map(|word| word.to_string()).collect();
+//! assert_eq!(shared, ["", "1", "1 1", "1 2", "2"]);
+//!
+//! // The third row of the table: the first journal at place 2, the second at place 3.
+//! let row = books.row(2)?;
+//! assert_eq!(row.place(0), Some(2));
+//! assert_eq!(row.place(1), Some(3));
+//! assert_eq!(row.count(), 2);
+//!
+//! // A refusal changes nothing, and says why.
+//! assert_eq!(books.list(3, 3).err(), Some(Error::WrongQuorum));
+//! # Ok(())
+//! # }
+//! ```
+
+mod books;
+mod error;
+mod list;
+pub mod raw;
+mod row;
+mod word;
+
+pub use books::{Books, Verdict, JOURNAL_BOOK, ROW_BOOK};
+pub use error::Error;
+pub use list::{Words, LARGEST_PAGE};
+pub use row::{Row, ROW_RECORD};
+pub use word::{Step, Word, LONGEST_WORD, WORD_RECORD};

@@ -1,0 +1,97 @@
+//! The list, fetched page by page.
+
+use crate::error::done;
+use crate::{raw, Books, Error, Word, WORD_RECORD};
+use std::iter::FusedIterator;
+
+/// The most words that one call of the list hands out: 4,096, in 65,536 bytes.
+pub const LARGEST_PAGE: usize = 4096;
+
+/// The listed words, in dictionary order: made by [`Books::list`] and its kin.
+///
+/// It holds one page of them. When that is used up it fetches the next one, after the page's last
+/// word. The books are borrowed as long as it lives, so that what it lists can't change under it.
+#[derive(Clone, Debug)]
+pub struct Words<'a> {
+    books: &'a Books,
+    quorum: usize,
+    length: usize,
+    page: Vec<u8>,
+    /// The words of the page, and how many of them were handed out.
+    written: usize,
+    taken: usize,
+    /// Whether a further page remains.
+    more: bool,
+}
+
+impl<'a> Words<'a> {
+    pub(crate) fn new(
+        books: &'a Books,
+        quorum: usize,
+        length: usize,
+        after: Option<&Word>,
+        page: usize,
+    ) -> Result<Words<'a>, Error> {
+        // A page that is too large is refused by the library; this keeps it from being made.
+        let page = page.min(LARGEST_PAGE + 1);
+        let mut words = Words {
+            books,
+            quorum,
+            length,
+            page: vec![0; WORD_RECORD * page],
+            written: 0,
+            taken: 0,
+            more: false,
+        };
+        words.fetch(after)?;
+        Ok(words)
+    }
+
+    /// Fetches a page: from the start, or after a word.
+    fn fetch(&mut self, after: Option<&Word>) -> Result<(), Error> {
+        let answer = raw::list(
+            &self.books.journals()[..],
+            &self.books.rows()[..],
+            self.quorum,
+            self.length,
+            u8::from(after.is_some()),
+            &after.copied().unwrap_or(Word::EMPTY).record(),
+            &mut self.page,
+        );
+        done(answer.number)?;
+        self.written = answer.written;
+        self.taken = 0;
+        self.more = answer.more;
+        Ok(())
+    }
+
+    /// A word of the page.
+    fn word(&self, at: usize) -> Word {
+        let record = &self.page[WORD_RECORD * at..WORD_RECORD * (at + 1)];
+        Word::from_record(record).expect("the list writes word records")
+    }
+}
+
+impl Iterator for Words<'_> {
+    type Item = Word;
+
+    fn next(&mut self) -> Option<Word> {
+        if self.taken == self.written && self.more {
+            let last = self.word(self.written - 1);
+            self.fetch(Some(&last))
+                .expect("the books and the ask are those of the first page");
+        }
+        if self.taken == self.written {
+            return None;
+        }
+        self.taken += 1;
+        Some(self.word(self.taken - 1))
+    }
+
+    fn size_hint(&self) -> (usize, Option<usize>) {
+        let left = self.written - self.taken;
+        (left + usize::from(self.more), (!self.more).then_some(left))
+    }
+}
+
+impl FusedIterator for Words<'_> {}
