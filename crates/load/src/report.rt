@@ -1,0 +1,156 @@
+// Printing: the first line, a line for each word of the list, page after page, and the last line.
+
+use books::number::DONE;
+use feed::Ask;
+use feed::Line;
+use libc::STDOUT_FILENO;
+use records::LONGEST_WORD;
+use records::WORD_RECORD;
+ghost use mathlib.Core.Path.{_≡_};
+ghost use Prim.Native.Nat.{_+_, _*_, _≤_};
+ghost use lib.ListN.{length};
+
+// The bytes of a page of 1,024 words, and of its text: a line has at most 96 bytes.
+const PAGE: usize = 16384;
+
+const TEXT: usize = 98304;
+
+const PAGE_WORDS: usize = 1024;
+
+// More pages than any list has: all words of up to 15 steps fill fewer.
+const TURNS: usize = 9007199254740992;
+
+// How many words were printed, and whether they are all.
+struct Printed {
+    words: usize,
+    whole: bool,
+}
+
+// Prints a line. Answers whether all of it was written.
+pub(crate) fn print_line(line: Line) -> bool
+    requires { ⌜ line .len ≤ 96 ⌝ }
+{
+    let n = line.len;
+    let bytes = line.bytes;
+    io::write_all(STDOUT_FILENO, &bytes[..n])
+}
+
+// Puts a line into the text from a byte on. Answers where it ends.
+fn put_line(text: &mut [u8], at: usize, line: Line) -> usize
+    requires { ⌜ (line .len ≤ 96) × (at + 96 ≤ length (now text)) ⌝ }
+    ensures { λ r. ⌜ r ≤ at + 96 ⌝ }
+{
+    let n = line.len;
+    let bytes = line.bytes;
+    let mut i = 0;
+    while i < n {
+        text[at + i] = bytes[i];
+        i += 1;
+    }
+    at + n
+}
+
+// The line of the word in a word record.
+fn record_line(rows: &[u8], word_record: &[u8]) -> Line
+    requires { ⌜ length (now word_record) ≡ 16 ⌝ }
+    ensures { λ r. ⌜ r .len ≤ 96 ⌝ }
+{
+    let n = word_record[0] as usize;
+    if LONGEST_WORD < n {
+        return feed::word_line(0, &word_record[..0]);
+    }
+    let end = 1 + n;
+    let counted = books::table_count(rows, &word_record[1..end]);
+    feed::word_line(counted.count, &word_record[1..end])
+}
+
+// The word record i of a page.
+fn record_at(page: &[u8], i: usize) -> [u8; 16]
+    requires { ⌜ 16 * i + 16 ≤ length (now page) ⌝ }
+{
+    let mut found = [0u8; WORD_RECORD];
+    let mut c = 0;
+    while c < WORD_RECORD {
+        found[c] = page[WORD_RECORD * i + c];
+        c += 1;
+    }
+    found
+}
+
+// Prints the words of a page, a line each. Answers whether all of it was written.
+fn print_page(rows: &[u8], page: &[u8], written: usize) -> bool
+    requires { ⌜ (written ≤ 1024) × (length (now page) ≡ 16384) ⌝ }
+{
+    let mut text = [0u8; TEXT];
+    let mut end = 0;
+    let mut i = 0;
+    while i < written {
+        let word_record = record_at(page, i);
+        end = put_line(&mut text, end, record_line(rows, &word_record));
+        i += 1;
+    }
+    io::write_all(STDOUT_FILENO, &text[..end])
+}
+
+// The less of two numbers.
+fn least(a: usize, b: usize) -> usize
+    ensures { λ r. ⌜ (r ≤ a) × (r ≤ b) ⌝ }
+{
+    if a < b { a } else { b }
+}
+
+// Prints the words of the list, page after page, from the start or after a word. Answers how many there were, or that
+// a write failed.
+fn print_words(journals: &[u8], rows: &[u8], ask: Ask) -> Printed {
+    let quorum = ask.quorum;
+    let limit = ask.limit;
+    let mut page = [0u8; PAGE];
+    let mut last = [0u8; WORD_RECORD];
+    let mut words = 0;
+    let mut after = false;
+    let mut turns = TURNS;
+    while 0 < turns {
+        let listed = list::list(journals, rows, quorum, limit, after, &last, &mut page);
+        let wrong = listed.number;
+        let written = least(listed.written, PAGE_WORDS);
+        let more = listed.more;
+        if wrong != DONE {
+            return Printed {
+                words,
+                whole: false,
+            };
+        }
+        if !print_page(rows, &page, written) {
+            return Printed {
+                words,
+                whole: false,
+            };
+        }
+        words += written;
+        if !more {
+            return Printed { words, whole: true };
+        }
+        // A part with words behind it is full.
+        last = record_at(&page, PAGE_WORDS - 1);
+        after = true;
+        turns -= 1;
+    }
+    Printed {
+        words,
+        whole: false,
+    }
+}
+
+// Prints the list: the first line, the words, and the last line once every word was written.
+pub(crate) fn print_list(journals: &[u8], rows: &[u8], k: usize, ask: Ask) {
+    if !print_line(feed::first_line(k, feed::live_rows(rows))) {
+        os::fail(b"standard output");
+        return;
+    }
+    let printed = print_words(journals, rows, ask);
+    if !printed.whole {
+        os::fail(b"standard output");
+        return;
+    }
+    print_line(feed::last_line(printed.words));
+}
