@@ -1,20 +1,21 @@
 #!/usr/bin/env python3
-"""Shows that the trial of the books can fail: breaks tests/model.py in many ways, those that document 01 has seen go wrong
-among them, and prints for each the first line of the trial that tells. Ends with an error where none does.
+"""Shows that the trials can fail: breaks tests/model.py in many ways, those that document 01 has seen go wrong among them,
+and prints for each the first line of the trial that tells. Ends with an error where none does.
 
-    python3 tests/bites.py
+    python3 tests/bites.py               breaks the books and the list
+    python3 tests/bites.py trial_list    breaks the list only; the same with trial_books
 """
 import os
 import struct
 import sys
 import types
 
-import make_books_trial as trial
-
-HERE = os.path.dirname(os.path.abspath(__file__))
+import make_books_trial
+import make_list_trial
+import trial
 
 # What is wrong, the text of the model, and what stands there instead.
-WRONG = [
+WRONG_BOOKS = [
     ("counts distinct places", "return len(state) - state.count(LOST)", "return len(set(state) - {LOST})"),
     ("keeps states that no word reaches", "reached, words = {}, [bytes(len(journals))]",
      "reached, words = {}, [bytes(len(journals)), *(journals[-1:] > (b'',) and live_states(journals[:-1] + (journals[-1][:-1],)) or [])]"),
@@ -63,10 +64,69 @@ WRONG = [
     ("a row book that is too long is taken", "len(journals) == JOURNAL_BOOK and len(rows) == ROW_BOOK", "len(journals) == JOURNAL_BOOK and len(rows) >= ROW_BOOK"),
 ]
 
+LISTED = "itertools.islice(words_by_quorum(now, quorum, length, word), fit + 1)"
+SIZES = "not sized(journals, rows) or len(record) != WORD_RECORD or not right_output(out)"
+IS_9 = "    if length > LONGEST_WORD:\n        return 9, 0, False\n"
+IS_8 = "    now = journals_of(journals)\n    if not 1 <= quorum <= len(now):\n        return 8, 0, False\n"
+IS_2 = "    if check(journals, rows)[0] != 0:\n        return 2, 0, False\n"
+IS_10 = "    word = steps_of(record, LONGEST_WORD) if after else None\n    if after and (word is None or len(word) > length):\n        return 10, 0, False\n"
+
+WRONG_LISTS = [
+    ("a word is dropped where a longer one is listed", "    if after is None:\n        yield b\"\"\n",
+     "    if after is None and not (length and any(len(what_follows(journals, step)) >= quorum for step in range(STEPS))):\n        yield b\"\"\n"),
+    ("stops at the first word below the quorum", LISTED,
+     "itertools.islice(itertools.takewhile(lambda w: count(now, w) >= quorum, words_by_quorum(now, 0, length, word)), fit + 1)"),
+    ("stops at the first step below the quorum", "        rest = after[1:]", "        if len(what_follows(journals, step)) < quorum:\n            return\n        rest = after[1:]"),
+    ("after repeats the word", "    if after is None:\n        yield", "    if not after:\n        yield"),
+    ("after skips the word's extensions", "    first = after[0] if after else 0\n", "    if after == b\"\":\n        return\n    first = after[0] if after else 0\n"),
+    ("after a word that is not in the list comes none", LISTED, "[] if after and count(now, word) < quorum else " + LISTED),
+    ("after a word that is not in the list comes all", LISTED, LISTED.replace("word)", "word if after and count(now, word) >= quorum else None)")),
+    ("a last word too many", "for word in words[:fit])", "for word in words[:fit + 1])"),
+    ("says a word too many", "return 0, len(words[:fit]),", "return 0, len(words),"),
+    ("a last word too few", "for word in words[:fit])", "for word in words[:max(fit - 1, 1)])"),
+    ("more is always no", "len(words) > fit\n", "False\n"),
+    ("more where the page is full", "len(words) > fit\n", "len(words) >= fit\n"),
+    ("only the empty word", LISTED, "[] if after else [b\"\"]"),
+    ("no empty word", "    if after is None:\n        yield b\"\"\n", "    if after is None and len(journals) < 0:\n        yield b\"\"\n"),
+    ("the higher step first", "range(first, STEPS)", "reversed(range(first, STEPS))"),
+    ("only words as long as the length", "    if after is None:\n        yield b\"\"\n    if length == 0:\n        return\n", "    if length == 0:\n        if after is None:\n            yield b\"\"\n        return\n"),
+    ("step 15 is left out", "range(first, STEPS)", "range(first, STEPS - 1)"),
+    ("words shorter than the length", "    if length == 0:\n        return\n", "    if length <= 1:\n        return\n"),
+    ("equal journals count once", "    if len(journals) < quorum:\n", "    if len(set(journals)) < quorum:\n"),
+    ("above the quorum only", "    if len(journals) < quorum:\n", "    if len(journals) <= quorum:\n"),
+    ("steps in any order", "tuple(journal[journal.index(step) + 1:] for", "tuple(journal for"),
+    ("quorum k + 1 is taken", "1 <= quorum <= len(now)", "1 <= quorum <= len(now) + 1"),
+    ("quorum k is refused", "1 <= quorum <= len(now)", "1 <= quorum < len(now)"),
+    ("quorum 0 is taken", "1 <= quorum <= len(now)", "quorum <= len(now)"),
+    ("a quorum of four bytes", "1 <= quorum <= len(now)", "1 <= quorum % 2 ** 32 <= len(now)"),
+    ("length 16 is taken", "if length > LONGEST_WORD:", "if length > LONGEST_WORD + 1:"),
+    ("length 15 is refused", "if length > LONGEST_WORD:", "if length >= LONGEST_WORD:"),
+    ("a length of one byte", "if length > LONGEST_WORD:", "length %= 256\n    if length > LONGEST_WORD:"),
+    ("8 before 9", IS_9 + IS_8, IS_8 + IS_9),
+    ("9 before 2", IS_2 + IS_9, IS_9 + IS_2),
+    ("10 before 8", IS_8 + IS_10, IS_10 + IS_8),
+    ("10 before 9", IS_9 + IS_8 + IS_10, IS_10 + IS_9 + IS_8),
+    ("damage is not looked at", IS_2, "    if first_wrong(journals) != JOURNALS:\n        return 2, 0, False\n"),
+    ("an after-word longer than the list length", "word is None or len(word) > length", "word is None"),
+    ("an after-word as long as the list length is refused", "len(word) > length", "len(word) >= length"),
+    ("an after-word of wrong form is taken", "word = steps_of(record, LONGEST_WORD) if after", "word = bytes(record[1:1 + record[0]]) if after"),
+    ("from the start looks at the word", "if after and (word is None", "if steps_of(record, LONGEST_WORD) is None or after and (word is None"),
+    ("from the start takes any size of word", SIZES, SIZES.replace("len(record)", "after and len(record)")),
+    ("an output of 0 bytes", "WORD_RECORD <= len(out) <=", "len(out) <="),
+    ("an output of 24 bytes", "len(out) % WORD_RECORD == 0", "len(out) % 8 == 0"),
+    ("an output of 65,552 bytes", "LARGEST_OUTPUT = 65536", "LARGEST_OUTPUT = 65552"),
+    ("an output of 65,536 bytes is refused", "LARGEST_OUTPUT = 65536", "LARGEST_OUTPUT = 65535"),
+    ("bytes behind the last word are cleared", "out[:len(page)] = page", "out[:] = page.ljust(len(out), b\"\\0\")"),
+    ("bytes behind a word's steps stay", "out[:len(page)] = page", "\n    for n, word in enumerate(words[:fit]):\n        out[16 * n:16 * n + 1 + len(word)] = bytes([len(word)]) + word"),
+    ("a refusal clears the output", "        return 8, 0, False\n", "        out[:] = bytes(len(out))\n        return 8, 0, False\n"),
+]
+
+TRIALS = (make_books_trial.CRATE, trial.Trial, WRONG_BOOKS), (make_list_trial.CRATE, make_list_trial.Trial, WRONG_LISTS)
+
 
 def broken(old, new):
     """The model with one text in the place of another."""
-    with open(os.path.join(HERE, "model.py")) as file:
+    with open(os.path.join(os.path.dirname(os.path.abspath(__file__)), "model.py")) as file:
         text = file.read()
     if text.count(old) != 1:
         sys.exit(f"the model has {text.count(old)} times: {old}")
@@ -75,9 +135,9 @@ def broken(old, new):
     return books
 
 
-def lines(script, books):
-    """What the trial prints by a model; where that breaks off, a line that no trial has."""
-    state, at = trial.Trial(books), 0
+def lines(script, state):
+    """What a trial prints by a model; where that breaks off, a line that no trial has."""
+    at = 0
     while at < len(script):
         code, size = struct.unpack_from("<BH", script, at)
         at += 3 + size
@@ -85,25 +145,34 @@ def lines(script, books):
             yield trial.BROKEN
             return
         try:
-            yield trial.printed(code, state.answer(code, script[at - size:at]))
+            yield from state.printed(code, script[at - size:at]).splitlines(keepends=True)
         except Exception as error:
             yield f"{chr(code)} broke off: {error!r}\n"
             return
 
 
-def main():
-    crate = os.path.join(HERE, "..", "crates", "trial_books")
-    with open(os.path.join(crate, "stdin"), "rb") as file:
+def bite(crate, state_of, wrong):
+    """Every wrong model through the trial of a crate."""
+    with open(trial.crate_file(crate, "stdin"), "rb") as file:
         script = file.read()
-    with open(os.path.join(crate, "stdout")) as file:
+    with open(trial.crate_file(crate, "stdout")) as file:
         right = file.readlines()
-    for name, old, new in WRONG:
-        told = next(((n, a, b) for n, (a, b) in enumerate(zip(right, lines(script, broken(old, new))), 1) if a != b), None)
+    for name, old, new in wrong:
+        printed = lines(script, state_of(broken(old, new)))
+        told = next(((n, a, b) for n, (a, b) in enumerate(zip(right, printed), 1) if a != b), None)
         if told is None:
             sys.exit(f"{name}: no line tells")
         print(f"{name}: line {told[0]} is `{told[2].strip()}` and not `{told[1].strip()}`", flush=True)
-    print(f"{len(WRONG)} wrong models, and each is found")
+    print(f"{crate}: {len(wrong)} wrong models, and each is found")
+
+
+def main(names):
+    for crate, state_of, wrong in TRIALS:
+        if names in ([], [crate]):
+            bite(crate, state_of, wrong)
 
 
 if __name__ == "__main__":
-    main()
+    if sys.argv[1:] not in ([], *([crate] for crate, _, _ in TRIALS)):
+        sys.exit(__doc__)
+    main(sys.argv[1:])

@@ -1,167 +1,29 @@
 #!/usr/bin/env python3
 """Makes the trial of the books: the script (crates/trial_books/stdin) and what the trial must print (stdout).
 
-The script is the same at every run; what must be printed is what tests/model.py answers.
+The script is the same at every run; what must be printed is what tests/model.py answers. Its commands stand at the head of
+tests/trial.py.
 
     python3 tests/make_books_trial.py           writes both files
     python3 tests/make_books_trial.py --same    says whether the files are those that it would write
-
-The script is a row of commands. Each is a code, the number of its argument bytes in two bytes, low byte first, and
-these bytes. Each prints one line: its code, then the numbers named here, each after a space, in decimal.
-
-    c                     clear                                 number
-    o                     open                                  number
-    a STEP                append                                number
-    t WORD                table count of these steps            number, count
-    j RECORD              journal count of these bytes          number, count
-    k                     check                                 number, book, record, byte
-    r ROW                 row record; eight bytes, low first    number, length, digest of the bytes given back
-    w BOOK OFFSET BYTES   write bytes into a book               nothing
-    l BOOK LENGTH         lend so many bytes from now on        nothing
-    d                     digest                                digest of each book's room, lent or not
-
-BOOK is 1, the journal book, or 2, the row book; OFFSET and LENGTH have two bytes, low first. The room of each book is
-one record longer than the book, so that a book can be lent too long, and a write behind it shows. A digest is FNV-1a of
-64 bits. Anything else, or a command that is cut off, ends the run with the line `broken script`.
 """
-import os
-import random
 import struct
-import sys
 
 import model
+import trial
+from trial import JOURNAL_BOOK, ROW_RECORD, TABLE, WORD_RECORD
 
-CLEAR, OPEN, APPEND, TABLE, JOURNAL, CHECK, ROW, WRITE, LEND, DIGEST = b"coatjkrwld"
-JOURNAL_BOOK, JOURNAL_RECORD, ROW_BOOK, ROW_RECORD, WORD_RECORD = 4096, 256, 64000, 64, 16
-JOURNAL_ROOM, ROW_ROOM = JOURNAL_BOOK + JOURNAL_RECORD, ROW_BOOK + ROW_RECORD
-BROKEN = "broken script\n"
-
-
-def digest(data):
-    """FNV-1a of 64 bits. Zeros at the end only multiply, so that they are done in one go."""
-    data = bytes(data)
-    head = data.rstrip(b"\0")
-    value = 0xCBF29CE484222325
-    for byte in head:
-        value = (value ^ byte) * 0x100000001B3 & 0xFFFFFFFFFFFFFFFF
-    return value * pow(0x100000001B3, len(data) - len(head), 2 ** 64) % 2 ** 64
+CRATE = "trial_books"
 
 
-class Trial:
-    """The books in their rooms, how much of them is lent, and what a command answers by the model."""
-
-    def __init__(self, books):
-        self.books = books
-        self.rooms = bytearray(JOURNAL_ROOM), bytearray(ROW_ROOM)
-        self.lent = [JOURNAL_BOOK, ROW_BOOK]
-
-    def answer(self, code, args):
-        journals, rows = (memoryview(room)[:n] for room, n in zip(self.rooms, self.lent))
-        if code == CLEAR:
-            return [self.books.clear(journals, rows)]
-        if code == OPEN:
-            return [self.books.open_journal(journals, rows)]
-        if code == APPEND:
-            return [self.books.append(journals, rows, *args)]
-        if code == TABLE:
-            return self.books.table_count(rows, args)
-        if code == JOURNAL:
-            return self.books.journal_count(journals, args)
-        if code == CHECK:
-            return self.books.check(journals, rows)
-        if code == ROW:
-            n = int.from_bytes(args, "little")
-            given = self.books.row_record(rows, n)
-            return [self.books.row_record_number(rows, n), len(given), digest(given)]
-        if code == WRITE:
-            book, at = struct.unpack_from("<BH", args)
-            self.rooms[book - 1][at:at + len(args) - 3] = args[3:]
-            return []
-        if code == LEND:
-            book, self.lent[book - 1] = struct.unpack("<BH", args)
-            return []
-        return [digest(room) for room in self.rooms]
-
-
-def printed(code, numbers):
-    return " ".join([chr(code), *map(str, numbers)]) + "\n"
-
-
-class Script:
-    """The script as it grows, and what it must print: a method for each command, and commands that are used together."""
-
-    def __init__(self):
-        self.bytes, self.lines = bytearray(), []
-        self.trial = Trial(model)
-        self.chance = random.Random(20250101)
-
-    def command(self, code, args=b""):
-        self.bytes += struct.pack("<BH", code, len(args)) + args
-        self.lines.append(printed(code, self.trial.answer(code, args)))
-
-    def clear(self):
-        self.command(CLEAR)
-
-    def open(self):
-        self.command(OPEN)
-
-    def append(self, step):
-        self.command(APPEND, bytes([step]))
-
-    def table(self, word):
-        self.command(TABLE, bytes(word))
-
-    def journal(self, record):
-        self.command(JOURNAL, bytes(record))
-
-    def check(self):
-        self.command(CHECK)
-
-    def row(self, n):
-        self.command(ROW, n.to_bytes(8, "little"))
-
-    def write(self, book, at, data):
-        self.command(WRITE, struct.pack("<BH", book, at) + bytes(data))
-
-    def lend(self, book, length):
-        self.command(LEND, struct.pack("<BH", book, length))
-
-    def digest(self):
-        self.command(DIGEST)
+class Script(trial.Script):
+    """Commands on the books that are used together."""
 
     def word(self, steps):
         """A word counted both ways; by the journals only if it fits a word record."""
         self.table(steps)
         if len(steps) < WORD_RECORD:
             self.journal(model.steps_record(bytes(steps), WORD_RECORD))
-
-    def books(self, journals):
-        """Books of these journals, by the calls."""
-        self.clear()
-        for journal in journals:
-            self.open()
-            for step in journal:
-                self.append(step)
-
-    def random_word(self, steps, longest):
-        return bytes(self.chance.choices(steps, k=self.chance.randrange(longest + 1)))
-
-    def with_written(self, writes, calls):
-        """Calls while other bytes stand in the books; then the books are as before. Nothing if the bytes are no others."""
-        was = [(book, at, self.trial.rooms[book - 1][at:at + len(data)]) for book, at, data in writes]
-        if any(bytes(old[2]) != bytes(new[2]) for old, new in zip(was, writes)):
-            for write in writes:
-                self.write(*write)
-            calls(self)
-            for write in reversed(was):
-                self.write(*write)
-
-    def with_lent(self, book, length, calls):
-        """Calls while so many bytes of a book are lent."""
-        was = self.trial.lent[book - 1]
-        self.lend(book, length)
-        calls(self)
-        self.lend(book, was)
 
     def every_call(self):
         """Every call but clear, and then the digest, which shows what was written."""
@@ -180,12 +42,11 @@ class Script:
 
 
 def guards(s):
-    """The spare record behind each book is not zero, so that a write behind a book shows. Then the books are filled with
-    bytes that are no books, every call is tried on them, and clear makes them zero."""
+    """The spare record behind each book is guarded. Then the books are filled with bytes that are no books, every call is
+    tried on them, and clear makes them zero."""
     s.digest()
     s.every_call()
-    s.write(1, JOURNAL_BOOK, b"\xA5" * JOURNAL_RECORD)
-    s.write(2, ROW_BOOK, b"\x5A" * ROW_RECORD)
+    s.guard_books()
     s.write(1, 0, s.chance.randbytes(JOURNAL_BOOK))
     s.write(2, 0, s.chance.randbytes(20 * ROW_RECORD))
     s.write(2, 980 * ROW_RECORD, s.chance.randbytes(20 * ROW_RECORD))
@@ -538,32 +399,14 @@ def random_damage(s):
 
 
 def whole_script():
-    """The script's bytes and the lines that it prints."""
-    s = Script()
+    """The script's bytes and what it prints."""
+    s = Script(trial.Trial(model))
     for part in guards, worked, lengths_and_steps, damage, wrong_sizes, word_records, row_numbers, garbage, chain, \
             far_too_many_states, random_damage, thousand_rows, random_journals:
         part(s)
     # The last command is cut off: the run ends with the line that says so.
-    return s.bytes + struct.pack("<BHB", TABLE, 2, 1), [*s.lines, BROKEN]
-
-
-def main(args):
-    crate = os.path.join(os.path.dirname(os.path.abspath(__file__)), "..", "crates", "trial_books")
-    commands, lines = whole_script()
-    wanted = {"stdin": commands, "stdout": "".join(lines).encode()}
-    for name, data in wanted.items():
-        path = os.path.join(crate, name)
-        if args == ["--same"]:
-            with open(path, "rb") as file:
-                if file.read() != data:
-                    sys.exit(f"{name} is not what the model makes")
-        else:
-            with open(path, "wb") as file:
-                file.write(data)
-        print(f"{name}: {len(data)} bytes")
+    return s.bytes + struct.pack("<BHB", TABLE, 2, 1), "".join(s.printed) + trial.BROKEN
 
 
 if __name__ == "__main__":
-    if sys.argv[1:] not in ([], ["--same"]):
-        sys.exit(__doc__)
-    main(sys.argv[1:])
+    trial.main(CRATE, whole_script, __doc__)

@@ -1,5 +1,5 @@
 #!/usr/bin/env python3
-"""The books of document 01 a second time: plain Python, written from the document alone.
+"""The books and the list of document 01 a second time: plain Python, written from the document alone.
 
 Books are bytearrays (or parts of them, as memoryviews) and are changed where they lie. Each call answers for every
 input, refused ones included. Each function stands under the sentence of the document that it says.
@@ -14,6 +14,7 @@ from operator import getitem
 
 STEPS, JOURNALS, LONGEST_JOURNAL, LONGEST_WORD, LOST = 16, 16, 200, 15, 255
 JOURNAL_BOOK, JOURNAL_RECORD, ROW_BOOK, ROW_RECORD, ROWS, WORD_RECORD = 4096, 256, 64000, 64, 1000, 16
+LARGEST_OUTPUT = 65536
 
 
 # Words and counts. A journal is the bytes of its steps; journals are a tuple of them; a state is the bytes of k places.
@@ -246,6 +247,64 @@ def row_record(rows, n):
     return rows[ROW_RECORD * n:ROW_RECORD * (n + 1)] if row_record_number(rows, n) == 0 else rows[:0]
 
 
+# The list.
+
+@lru_cache(maxsize=65536)
+def what_follows(journals, step):
+    """Of each journal that has the step: what follows where it is found first. A word that begins with the step is in a
+    journal when the rest of the word is in what follows."""
+    return tuple(journal[journal.index(step) + 1:] for journal in journals if step in journal)
+
+
+def words_by_quorum(journals, quorum, length, after):
+    """The words of up to a length that a quorum of the journals has, in dictionary order: "a word stands before its
+    extensions; otherwise the lower step at the first difference comes first". Those after a word only; None for all.
+
+    The journals are what is left of those that have the word so far. Where they are fewer than the quorum, so they are for
+    every extension, and none of them is looked at.
+    """
+    if len(journals) < quorum:
+        return
+    if after is None:
+        yield b""
+    if length == 0:
+        return
+    first = after[0] if after else 0
+    for step in range(first, STEPS):
+        rest = after[1:] if after and step == first else None
+        for word in words_by_quorum(what_follows(journals, step), quorum, length - 1, rest):
+            yield bytes([step]) + word
+
+
+def right_output(out):
+    """"Output: a multiple of 16, from 16 to 65,536." """
+    return len(out) % WORD_RECORD == 0 and WORD_RECORD <= len(out) <= LARGEST_OUTPUT
+
+
+def list_page(journals, rows, quorum, length, after, record, out):
+    """"It writes the first words of the list from there on, one record each, as many as fit or as remain."
+
+    List: 1, 2, 9, 8, 10. A number, "how many it wrote and whether a further word remains".
+    """
+    if not sized(journals, rows) or len(record) != WORD_RECORD or not right_output(out):
+        return 1, 0, False
+    if check(journals, rows)[0] != 0:
+        return 2, 0, False
+    if length > LONGEST_WORD:
+        return 9, 0, False
+    now = journals_of(journals)
+    if not 1 <= quorum <= len(now):
+        return 8, 0, False
+    word = steps_of(record, LONGEST_WORD) if after else None
+    if after and (word is None or len(word) > length):
+        return 10, 0, False
+    fit = len(out) // WORD_RECORD
+    words = list(itertools.islice(words_by_quorum(now, quorum, length, word), fit + 1))
+    page = b"".join(steps_record(word, WORD_RECORD) for word in words[:fit])
+    out[:len(page)] = page
+    return 0, len(words[:fit]), len(words) > fit
+
+
 # The model held to the document.
 
 def books_of(*journals):
@@ -283,8 +342,9 @@ def worked_books():
     for name, word, answer in ("P4", b"", 2), ("P5", b"\1\2\1", 1), ("P6", b"\2\2", 0):
         assert table_count(rows, word) == (0, answer), name
         assert journal_count(journals, steps_record(word, WORD_RECORD)) == (0, answer), name
-    listed = sorted(w for w in words_to(3, range(STEPS)) if table_count(rows, w)[1] >= 1)
-    assert listed == [b"", b"\1", b"\1\1", b"\1\1\2", b"\1\2", b"\1\2\1", b"\2", b"\2\1"], "P7"
+    listed = [b"", b"\1", b"\1\1", b"\1\1\2", b"\1\2", b"\1\2\1", b"\2", b"\2\1"]
+    assert sorted(w for w in words_to(3, range(STEPS)) if table_count(rows, w)[1] >= 1) == listed, "P7"
+    assert page_of((journals, rows), 1, 3, None, 9) == (listed, False), "P7"
     journals, rows = books_of()
     assert table_count(rows, b"") == (0, 0) and rows_of(rows) == [], "P8"
     journals, rows = books_of(b"")
@@ -320,6 +380,50 @@ def plain_definitions():
         assert sorted(states) == [p for p, _, _ in rows_of(rows)]
 
 
+def page_of(books, quorum, length, after, fit):
+    """The words of a page with room for so many, after a word or from the start, and whether a further word remains."""
+    out = bytearray(b"\7" * WORD_RECORD * fit)
+    record = bytes([99] * WORD_RECORD) if after is None else steps_record(after, WORD_RECORD)
+    number, written, more = list_page(*books, quorum, length, after is not None, record, out)
+    assert number == 0 and out[WORD_RECORD * written:] == b"\7" * WORD_RECORD * (fit - written)
+    return [steps_of(out[a:a + WORD_RECORD], length) for a in range(0, WORD_RECORD * written, WORD_RECORD)], more
+
+
+def whole_lists():
+    """On small random journals: every page against all words up to the length, each counted by deleting steps, sorted."""
+    chance = random.Random(2)
+    for _ in range(60):
+        steps = chance.choice([(0, 1), (0, 1, 2), (14, 15), (0, 7, 15)])
+        js = tuple(bytes(chance.choices(steps, k=chance.randrange(7))) for _ in range(chance.randrange(1, 5)))
+        left = [{bytes(c) for n in range(len(j) + 1) for c in itertools.combinations(j, n)} for j in js]
+        books = books_of(*js)
+        for quorum, length in itertools.product(range(1, len(js) + 1), (0, 1, 3, 6, 15)):
+            tried = words_to(min(length, 6), steps)
+            whole = sorted(w for w in tried if sum(w in words for words in left) >= quorum)
+            for after in [None, *chance.sample(tried, min(len(tried), 5)), bytes(length), bytes([15]) * length]:
+                due = whole if after is None else [w for w in whole if w > after]
+                for fit in 1, 2, 7, 4096:
+                    assert page_of(books, quorum, length, after, fit) == (due[:fit], len(due) > fit)
+            fetched, more = page_of(books, quorum, length, None, 2)
+            while more:
+                page, more = page_of(books, quorum, length, fetched[-1], 2)
+                fetched += page
+            assert fetched == whole
+
+
+def list_refusals():
+    """List: 1, 2, 9, 8, 10. Each of the last four by itself and before all behind it, and a wrong size before them all."""
+    journals, rows = books_of(b"\1\2\1", b"\1\1\2")
+    right = dict(journals=journals, rows=rows, quorum=2, length=15, after=True, record=bytes(16), out=bytearray(32))
+    wrong = [(2, "journals", bytearray(JOURNAL_BOOK)), (9, "length", 16), (8, "quorum", 3), (10, "record", b"\1\x10" + bytes(14))]
+    sizes = [("journals", 4095), ("rows", 64001), ("record", 15), *[("out", size) for size in (0, 8, 24, 65552)]]
+    for n in range(len(wrong) + 1):
+        asked = {**right, **{name: value for _, name, value in wrong[n:]}}
+        assert list_page(**asked) == ((wrong[n][0], 0, False) if n < len(wrong) else (0, 2, True))
+        for name, size in sizes:
+            assert list_page(**{**asked, name: bytearray(size)}) == (1, 0, False)
+
+
 def place(journal, word):
     """"The place of a word in a journal": 0 for the empty word, else by the place p of the word without its last step."""
     if not word:
@@ -332,10 +436,12 @@ def hold_to_document():
     worked_books()
     run_only()
     plain_definitions()
+    whole_lists()
+    list_refusals()
 
 
 if __name__ == "__main__":
     if sys.argv[1:] != ["--self"]:
         sys.exit(__doc__)
     hold_to_document()
-    print("model: P1 to P10, the limits and the plain definitions hold")
+    print("model: P1 to P10, the limits, the plain definitions and whole lists hold")
