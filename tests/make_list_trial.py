@@ -88,9 +88,6 @@ class Script(trial.Script):
         for words in pages:
             self.whole_list(quorum, length, words)
 
-    def k(self):
-        return len(self.journals())
-
     def journals(self):
         return model.journals_of(self.trial.rooms[0][:JOURNAL_BOOK])
 
@@ -100,7 +97,7 @@ class Script(trial.Script):
 
 
 TWO = b"\1\2\1", b"\1\1\2"
-DAMAGED = b"\1\2\1\3", b"\1\1\2", b"\3\1\2"
+THREE = b"\1\2\1\3", b"\1\1\2", b"\3\1\2"
 
 
 def no_journal(s):
@@ -135,8 +132,7 @@ def worked(s):
 
 
 def quorums(s):
-    """Quorum 0 is refused, 1 to k are taken, k + 1 is refused, and so is a huge one: of one, two, five and sixteen journals.
-    The list of a lower quorum holds that of a higher one."""
+    """Quorum 0 is refused, 1 to k are taken, k + 1 is refused, and so is a huge one: of one, two, five and sixteen journals."""
     for k in 1, 2, 5, 16:
         s.books([bytes(s.chance.choices((1, 2, 7), k=4)) for _ in range(k - 1)] + [b"\1\2\7\1"])
         for quorum in range(k + 3):
@@ -176,8 +172,8 @@ def after_words(s):
         listed = s.first_words(quorum, length, 40)
         below = [w for w in model.words_to(3, (1, 2, 7)) if len(w) <= length and w not in listed]
         between = [w + bytes([step]) for w in listed if len(w) < length for step in (0, 3, 15)]
-        for word in [*listed, *s.chance.sample(below, min(len(below), 20)), *s.chance.sample(between, min(len(between), 20)),
-                     bytes(length), bytes([15]) * length, b"\7\7"[:length]]:
+        others = [w for words in (below, between) for w in s.chance.sample(words, min(len(words), 20))]
+        for word in [*listed, *others, bytes(length), bytes([15]) * length]:
             s.page(quorum, length, s.chance.choice([1, 2, 3]), word)
             s.page(quorum, length, 40, word)
         for word in [w for w in model.words_to(3, (1, 7)) if len(w) == length + 1] + [bytes(15), bytes([1]) * 15]:
@@ -207,20 +203,26 @@ def sizes(s):
     """A word record of wrong size is 1, from the start too, where its content is nothing to the call; bytes of the right size
     that are no word record are taken there. Outputs of every kind: 1 unless a multiple of 16, from 16 to 65,536. Books of
     wrong size: 1."""
-    s.books(DAMAGED)
+    def calls(s):
+        s.ask(1, 3)
+        s.ask(1, 3, after=1)
+        s.ask(9, 16, after=1, record=[255] * 16)
+
+    s.books(THREE)
     for size in [*range(20), 31, 32, 33, 48, 256]:
         for after in 0, 1:
             s.ask(1, 3, after=after, record=bytes(size))
             s.ask(1, 3, after=after, record=b"\1" * size)
     for record in [255] * 16, [16] + [0] * 15, [1, 16] + [0] * 14, [3] * 16:
         s.ask(1, 3, 64, record=record)
-    for output in [*range(34), 40, 48, 56, 64, 100, 112, 120, 128, 1024, 4096, 65519, 65520, 65528, 65535, 65536, 65537, 65544, 65552]:
+    for output in [*range(34), 40, 48, 56, 64, 100, 112, 120, 128, 1024, 4096, 65519, 65520, 65528, 65535, 65536, 65537, 65544,
+                   65552]:
         s.fill(output % 251)
         s.ask(1, 3, output)
         s.ask(2, 3, output, 1, model.steps_record(b"\1", WORD_RECORD))
     for book, room in (1, (0, 256, 4095, 4097, 4352)), (2, (0, 64, 63999, 64001, 64064)):
         for length in room:
-            s.with_lent(book, length, lambda s: (s.ask(1, 3), s.ask(1, 3, after=1), s.ask(9, 16, after=1, record=[255] * 16)))
+            s.with_lent(book, length, calls)
     s.in_pages(2, 3)
 
 
@@ -242,17 +244,28 @@ def number_order(s):
     s.with_lent(2, ROW_BOOK + 1, every_choice)
 
 
-def damage(s):
-    """Damaged books are 2 and leave every byte: each field of both books, a row too many, more than 1,000 states, and no
-    journal beside rows. Where a byte is put back, the list is there again."""
-    s.books(DAMAGED)
-    s.fill(0x77)
+def damaged(s):
+    """One byte of each field of both books; three journals with more states than there are rows; no journal beside rows."""
     last = len(model.rows_of(s.trial.rooms[1])) - 1
-    rows = [(2, 64 * n + at, [s.trial.rooms[1][64 * n + at] ^ 1]) for n in (0, 1, last, last + 1, 999) for at in (0, 2, 3, 15, 16, 18, 19, 47, 48, 49, 63)]
-    journals = [(1, 256 * i + at, [value]) for i in (0, 2, 3, 15) for at, value in ((0, 0), (0, 1), (0, 2), (1, 2), (1, 201), (2, 5), (2, 16), (201, 1), (255, 1))]
-    many = [(1, 256 * i, bytes([1, 200]) + s.chance.randbytes(200).translate(bytes(n % 16 for n in range(256)))) for i in range(3)]
-    for writes in [*([write] for write in rows + journals), many, [(1, 0, bytes(JOURNAL_BOOK))]]:
-        s.with_written(writes, lambda s: (s.page(1, 3, 2), s.page(1, 3, 2, b"\1")))
+    for n, at in itertools.product((0, 1, last, last + 1, 999), (0, 2, 3, 15, 16, 18, 19, 47, 48, 49, 63)):
+        yield [(2, 64 * n + at, [s.trial.rooms[1][64 * n + at] ^ 1])]
+    fields = (0, 0), (0, 1), (0, 2), (1, 2), (1, 201), (2, 5), (2, 16), (201, 1), (255, 1)
+    for i, (at, value) in itertools.product((0, 2, 3, 15), fields):
+        yield [(1, 256 * i + at, [value])]
+    yield [(1, 256 * i, bytes([1, 200]) + bytes(s.chance.choices(range(16), k=200))) for i in range(3)]
+    yield [(1, 0, bytes(JOURNAL_BOOK))]
+
+
+def damage(s):
+    """Damaged books are 2, and no byte is written. Where the bytes are put back, the list is there again."""
+    def calls(s):
+        s.page(1, 3, 2)
+        s.page(1, 3, 2, b"\1")
+
+    s.books(THREE)
+    s.fill(0x77)
+    for writes in damaged(s):
+        s.with_written(writes, calls)
         s.page(2, 2, 2)
     s.digest()
 
@@ -273,7 +286,7 @@ def equal_journals(s):
 def bytes_that_stay(s):
     """Pages that the list does not fill, over many bytes: those behind the last word stay, and so do those behind the output.
     A full page, one word more and one word less than the list has."""
-    s.books(DAMAGED)
+    s.books(THREE)
     for quorum in 1, 2, 3:
         words = len(s.first_words(quorum, 4, 4096))
         for byte in 0, 1, 0x5A, 0xFF:
@@ -288,7 +301,7 @@ def bytes_that_stay(s):
 def random_journals(s):
     """Random journals: whole lists in pages of 1, 2, 7 and 4,096 words, with each quorum from 1 to k and a length from 0 to 15,
     the small pages where the list is short; k + 1 is refused; after words of all kinds; now and then the room is filled."""
-    for _ in range(48):
+    for _ in range(42):
         steps = s.chance.sample(range(16), s.chance.choice([1, 2, 2, 3, 4, 6, 16]))
         k = s.chance.choice([1, 2, 2, 3, 3, 4, 5, 7, 10, 16])
         longest = {1: 12, 2: 14, 3: 10, 4: 8, 5: 7}.get(k, 5)
@@ -348,7 +361,8 @@ def whole_script():
             bytes_that_stay, all_steps, random_journals, near_thousand:
         part(s)
     # The last command is neither from the start nor after a word: the run ends with the line that says so.
-    return s.bytes + trial.command_bytes(PAGE, struct.pack(ASKED, 1, 1, 32, 2) + bytes(WORD_RECORD)), "".join(s.printed) + trial.BROKEN
+    last = trial.command_bytes(PAGE, struct.pack(ASKED, 1, 1, 32, 2) + bytes(WORD_RECORD))
+    return s.bytes + last, "".join(s.printed) + trial.BROKEN
 
 
 if __name__ == "__main__":

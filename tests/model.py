@@ -415,7 +415,7 @@ def list_refusals():
     """List: 1, 2, 9, 8, 10. Each of the last four by itself and before all behind it, and a wrong size before them all."""
     journals, rows = books_of(b"\1\2\1", b"\1\1\2")
     right = dict(journals=journals, rows=rows, quorum=2, length=15, after=True, record=bytes(16), out=bytearray(32))
-    wrong = [(2, "journals", bytearray(JOURNAL_BOOK)), (9, "length", 16), (8, "quorum", 3), (10, "record", b"\1\x10" + bytes(14))]
+    wrong = [(2, "journals", bytearray(JOURNAL_BOOK)), (9, "length", 16), (8, "quorum", 3), (10, "record", bytes([16] * 16))]
     sizes = [("journals", 4095), ("rows", 64001), ("record", 15), *[("out", size) for size in (0, 8, 24, 65552)]]
     for n in range(len(wrong) + 1):
         asked = {**right, **{name: value for _, name, value in wrong[n:]}}
