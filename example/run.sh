@@ -1,7 +1,7 @@
 #!/usr/bin/env bash
 # The loading program on the small example: the journals in entries.bin, the question in ask.bin.
 # Builds the program first where it is missing, or older than a source of it. That proves each crate
-# that it stands on, which takes many minutes the first time; how far it is goes to standard error.
+# that it stands on, which takes a few minutes the first time; how far it is goes to standard error.
 set -eu
 cd "$(dirname "$0")/.."
 
