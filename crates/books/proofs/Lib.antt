@@ -6,8 +6,6 @@ pub mod Said
 pub mod BookSizes
 pub mod ClearCases
 pub mod RowRecordCases
-pub mod Steps
-pub mod Arcs
 pub mod TableCountCases
 pub mod JournalCountCases
 pub mod Differences
@@ -17,4 +15,3 @@ pub mod OpenCases
 pub mod AppendCases
 pub mod Putting
 pub mod Runs
-pub mod Breaks

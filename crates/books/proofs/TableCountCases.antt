@@ -10,7 +10,8 @@ use Rattle.records.specs.Sizes.{rowBookSize}
 use Rattle.records.specs.Bytes.{allBelow}
 use Rattle.records.specs.RowBook.{countAt}
 use Rattle.books.specs.Numbers.{done, wrongSize, wrongStep, damaged}
-use Rattle.books.specs.TableCount.{at-row, no-row, damage, walk, counted, tableCountCall}
+use Rattle.walk.specs.Walk.{at-row, no-row, damage, walk}
+use Rattle.books.specs.TableCount.{counted, tableCountCall}
 use Rattle.books.specs.declared.Counted.{Counted}
 
 -- the count of a refusal is 0

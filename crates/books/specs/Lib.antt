@@ -3,7 +3,6 @@ pub mod Clear
 pub mod Open
 pub mod Append
 pub mod TableCount
-pub mod Walked
 pub mod JournalCount
 pub mod Check
 pub mod RowRecord

@@ -6,7 +6,6 @@ mod difference;
 pub mod number;
 mod opening;
 mod size;
-mod walk;
 
 ghost use mathlib.Core.Path.{_≡_};
 ghost use Rattle.books.specs.Clear.{after, clearCall};

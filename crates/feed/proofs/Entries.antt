@@ -15,7 +15,7 @@ use Rattle.books.specs.Append.{appendCall}
 use Rattle.books.specs.Runs.{opens, appends}
 use Rattle.books.proofs.Refusals.{refused, call-refused}
 use Rattle.books.proofs.Runs.{call-keeps}
-use Rattle.feed.specs.Entry.{Entry, broken, append-entry, open-entry, open-append-entry, entryOf, openThenAppend, enter, bookRefusals, entryCall}
+use Rattle.feed.specs.Entry.{Entry, broken, append-entry, open-entry, open-append-entry, entryOf, openAppend, openAppendWhole, enter, bookRefusals, entryCall}
 
 -- refused, it leaves the books jb and rb
 abbrev Whole : List ℕ → List ℕ → After → Type 0
@@ -34,13 +34,11 @@ kept-unless zero a b p q = p
 kept-unless (suc n) a b p q = q
 
 module _ (jb rb : List ℕ) where
-  open-append-whole : (s : ℕ) → Whole jb rb (openThenAppend jb rb s)
-  unfolding openThenAppend
-  open-append-whole s =
-      let o : After = openCall jb rb in
-      let a : After = appendCall (o .journals) (o .rows) s in
-      let both : After = after (a .number) (unless (a .number) (a .journals) jb) (unless (a .number) (a .rows) rb) in
-      either (Whole jb rb) (eqb (o .number) 0) both o (λ h. (refused (a .number) (a .journals) jb h, refused (a .number) (a .rows) rb h)) (call-refused opens jb rb)
+  open-append-whole : (s : ℕ) → Whole jb rb (openAppendWhole jb rb s)
+  unfolding openAppendWhole
+  open-append-whole s h =
+      let a : After = openAppend jb rb s in
+      (refused (a .number) (a .journals) jb h, refused (a .number) (a .rows) rb h)
 
   enter-whole : (e : Entry) → Whole jb rb (enter e jb rb)
   unfolding enter
@@ -58,21 +56,25 @@ module _ (jb rb : List ℕ) where
       either (Whole jb rb) (eqb m 0) (enter e jb rb) (after m jb rb) (enter-whole e) (λ h. (refl, refl))
 
 module _ (js : List (List ℕ)) (jb rb : List ℕ) (b : BooksOf js jb rb) where
-  open-append-keeps : (s : ℕ) → Kept (openThenAppend jb rb s)
-  unfolding openThenAppend
+  open-append-keeps : (s : ℕ) → Kept (openAppend jb rb s)
+  unfolding openAppend
   open-append-keeps s =
       let o : After = openCall jb rb in
-      let a : After = appendCall (o .journals) (o .rows) s in
-      let both : After = after (a .number) (unless (a .number) (a .journals) jb) (unless (a .number) (a .rows) rb) in
       let ko = call-keeps js jb rb b opens in
-      either Kept (eqb (o .number) 0) both o (kept-unless (a .number) a (after 0 jb rb) (_, call-keeps _ (o .journals) (o .rows) ko (appends s)) (js, b)) (_, ko)
+      either Kept (eqb (o .number) 0) (appendCall (o .journals) (o .rows) s) o (_, call-keeps _ (o .journals) (o .rows) ko (appends s)) (_, ko)
+
+  whole-keeps : (s : ℕ) → Kept (openAppendWhole jb rb s)
+  unfolding openAppendWhole
+  whole-keeps s =
+      let a : After = openAppend jb rb s in
+      kept-unless (a .number) a (after 0 jb rb) (open-append-keeps s) (js, b)
 
   enter-keeps : (e : Entry) → Kept (enter e jb rb)
   unfolding enter
   enter-keeps broken = (js, b)
   enter-keeps (append-entry s) = (_, call-keeps js jb rb b (appends s))
   enter-keeps open-entry = (_, call-keeps js jb rb b opens)
-  enter-keeps (open-append-entry s) = open-append-keeps s
+  enter-keeps (open-append-entry s) = whole-keeps s
 
   -- from the books of journals, an entry leads to the books of journals
   pub entry-keeps : (n s : ℕ) → (ks : List (List ℕ)) × BooksOf ks (entryCall jb rb n s .journals) (entryCall jb rb n s .rows)

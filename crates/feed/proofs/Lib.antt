@@ -1,7 +1,4 @@
-pub mod Example
 pub mod OneOutcome
-pub mod Decimals
-pub mod Spaced
 pub mod AskCases
 pub mod Asking
 pub mod EntryCases

@@ -6,9 +6,9 @@ use lib.ListN.{length, getD}
 use lib.Dec.{eqb, ltb, leb}
 use Rattle.words.specs.Limits.{stepCodes}
 use Rattle.records.specs.Sizes.{journalBookSize}
-use Rattle.books.specs.Numbers.{Refusal, first, done, wrongSize, damaged, brokenEntry, unless}
+use Rattle.books.specs.Numbers.{Refusal, first, done, wrongSize, damaged, brokenEntry}
 use Rattle.records.specs.JournalBook.{journalForm, journalsOf}
-use Rattle.books.specs.Clear.{After, after}
+use Rattle.books.specs.Clear.{After, after, leaves}
 use Rattle.feed.specs.declared.Fed.{Fed}
 use Rattle.books.specs.Open.{openCall}
 use Rattle.books.specs.Append.{appendCall}
@@ -32,19 +32,22 @@ entryOf k n s =
     cond (eqb n k) (cond (ltb s stepCodes) (open-append-entry s) (cond (eqb s onlyOpen) open-entry broken))
     (cond (eqb (n + 1) k && ltb s stepCodes) (append-entry s) broken)
 
--- An entry that opens and appends is taken whole or not at all: if its append is refused, the journal isn't opened.
-unfoldable pub openThenAppend : List ℕ → List ℕ → ℕ → After
-openThenAppend jb rb s =
+-- opening, and appending where that is done
+unfoldable pub openAppend : List ℕ → List ℕ → ℕ → After
+openAppend jb rb s =
     let o : After = openCall jb rb in
     let a : After = appendCall (o .journals) (o .rows) s in
-    let both : After = after (a .number) (unless (a .number) (a .journals) jb) (unless (a .number) (a .rows) rb) in
-    cond (eqb (o .number) done) both o
+    cond (eqb (o .number) done) a o
+
+-- An entry that opens and appends is taken whole or not at all: if its append is refused, the journal isn't opened.
+unfoldable pub openAppendWhole : List ℕ → List ℕ → ℕ → After
+openAppendWhole jb rb s = let a : After = openAppend jb rb s in leaves (a .number) (a .journals) (a .rows) jb rb
 
 unfoldable pub enter : Entry → List ℕ → List ℕ → After
 enter broken jb rb = after brokenEntry jb rb
 enter (append-entry s) jb rb = appendCall jb rb s
 enter open-entry jb rb = openCall jb rb
-enter (open-append-entry s) jb rb = openThenAppend jb rb s
+enter (open-append-entry s) jb rb = openAppendWhole jb rb s
 
 -- the numbers of a journal book that isn't one; the program's own books never have them
 abbrev pub bookRefusals : List ℕ → List Refusal

@@ -1,5 +1,6 @@
 // One entry: what it asks for, and what it does to the books.
 
+use crate::copy::copy_all;
 use crate::reader::Read;
 use crate::reader::read_entry;
 use books::number::BROKEN_ENTRY;
@@ -13,7 +14,7 @@ ghost use mathlib.Core.Path.{_≡_};
 ghost use Prim.Native.Nat.{_<_};
 ghost use lib.ListN.{length};
 ghost use Rattle.books.specs.Clear.{after};
-ghost use Rattle.feed.specs.Entry.{entryOf, openThenAppend, entryCall, takenAt};
+ghost use Rattle.feed.specs.Entry.{entryOf, openAppend, openAppendWhole, entryCall, takenAt};
 ghost use Rattle.feed.specs.Asked.{asks};
 
 // The step that only opens.
@@ -51,9 +52,20 @@ fn entry_of(k: usize, number: u8, step: u8) -> Entry
     Entry::Broken
 }
 
-// Opens the next journal and appends to it, on copies of the books until both are accepted.
-fn open_then_append(journals: &mut [u8], rows: &mut [u8], step: u8) -> u8
-    ensures { λ r. ⌜ after r (now (journals .exit)) (now (rows .exit)) ≡ openThenAppend (now (journals .entry)) (now (rows .entry)) step ⌝ }
+// Opens the next journal and, where that is done, appends to it.
+fn open_append(journals: &mut [u8], rows: &mut [u8], step: u8) -> u8
+    ensures { λ r. ⌜ after r (now (journals .exit)) (now (rows .exit)) ≡ openAppend (now (journals .entry)) (now (rows .entry)) step ⌝ }
+{
+    let number = books::open(journals, rows);
+    if number != DONE {
+        return number;
+    }
+    books::append(journals, rows, step)
+}
+
+// Opens the next journal and appends to it, or does neither: on copies of the books until both are done.
+fn open_append_whole(journals: &mut [u8], rows: &mut [u8], step: u8) -> u8
+    ensures { λ r. ⌜ after r (now (journals .exit)) (now (rows .exit)) ≡ openAppendWhole (now (journals .entry)) (now (rows .entry)) step ⌝ }
 {
     if journals.len() != JOURNAL_BOOK {
         return WRONG_SIZE;
@@ -63,18 +75,14 @@ fn open_then_append(journals: &mut [u8], rows: &mut [u8], step: u8) -> u8
     }
     let mut new_journals = [0u8; JOURNAL_BOOK];
     let mut new_rows = [0u8; ROW_BOOK];
-    fill::copy_all(journals, &mut new_journals);
-    fill::copy_all(rows, &mut new_rows);
-    let opened = books::open(&mut new_journals, &mut new_rows);
-    if opened != DONE {
-        return opened;
+    copy_all(journals, &mut new_journals);
+    copy_all(rows, &mut new_rows);
+    let number = open_append(&mut new_journals, &mut new_rows, step);
+    if number != DONE {
+        return number;
     }
-    let appended = books::append(&mut new_journals, &mut new_rows, step);
-    if appended != DONE {
-        return appended;
-    }
-    fill::copy_all(&new_journals, journals);
-    fill::copy_all(&new_rows, rows);
+    copy_all(&new_journals, journals);
+    copy_all(&new_rows, rows);
     DONE
 }
 
@@ -92,7 +100,7 @@ pub fn enter(journals: &mut [u8], rows: &mut [u8], number: u8, step: u8) -> u8
         Entry::Broken => BROKEN_ENTRY,
         Entry::Append(s) => books::append(journals, rows, s),
         Entry::Open => books::open(journals, rows),
-        Entry::OpenAppend(s) => open_then_append(journals, rows, s),
+        Entry::OpenAppend(s) => open_append_whole(journals, rows, s),
     }
 }
 

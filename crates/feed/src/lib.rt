@@ -1,11 +1,11 @@
-// What the loading program does with its input: entries, the ask, and the text of a line. It relies on the promises of
-// `books` alone.
+// What the loading program does with its input: entries, the ask, and the text of a line, which `text` makes. Of the
+// books it relies on the promises of `books` alone.
 
 mod ask;
+mod copy;
 mod entry;
 mod live;
 mod reader;
-mod text;
 
 use entry::take_at;
 ghost use mathlib.Core.Path.{_≡_};

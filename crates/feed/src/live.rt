@@ -10,7 +10,14 @@ ghost use Rattle.feed.specs.Live.{liveAmong};
 fn all_zero(bytes: &[u8]) -> bool
     ensures { λ r. ⌜ r ≡ allZero (now (bytes .entry)) ⌝ }
 {
-    fill::all_below(bytes, 1)
+    let mut i = 0;
+    while i < bytes.len() {
+        if bytes[i] != 0 {
+            return false;
+        }
+        i += 1;
+    }
+    true
 }
 
 // How many row records aren't all zero: on sound books, the live rows.

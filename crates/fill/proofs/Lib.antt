@@ -1,2 +1,1 @@
 pub mod Zeroing
-pub mod Below

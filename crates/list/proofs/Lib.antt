@@ -1,7 +1,6 @@
 pub mod Complete
 pub mod Parts
 pub mod Numbers
-pub mod Breaks
 pub mod FromOn
 pub mod Climb
 pub mod Moves

@@ -8,3 +8,4 @@ pub mod RowBytes
 pub mod RowBook
 pub mod Sound
 pub mod Writing
+pub mod Below

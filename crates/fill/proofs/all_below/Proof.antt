@@ -4,7 +4,7 @@ use mathlib.Core.Path.{_≡_, sym, _∙_}
 use Prim.Native.Nat.{_-_, _≤_}
 use lib.ListN.{length, drop}
 use Rattle.records.specs.Bytes.{allBelow}
-use Rattle.fill.proofs.Below.{below-on, below-stop, below-end}
+use Rattle.records.proofs.Below.{below-on, below-stop, below-end}
 use borrow.Author.Needs.{needs}
 use Rattle.fill.proofs.all_below.Statement.{statement}
 use Rattle.fill.proofs.all_below.Tie as tie

@@ -46,8 +46,8 @@ open-requires c κs = search needs
 enum-known-s-2 : tie.Need-enum-known-s-2
 enum-known-s-2 c = search needs
 
-open-then-append-requires : tie.Need-open-then-append-requires
-open-then-append-requires c κs = search needs
+open-append-whole-requires : tie.Need-open-append-whole-requires
+open-append-whole-requires c κs = search needs
 
 same-length-2 : tie.Need-same-length-2
 same-length-2 c = search needs
@@ -96,7 +96,7 @@ unfolding enter
 returns-5 c =
     let asked = c .before .before .before .before .before .before .before .before .before .before in
     let start = asked .before .before .before .before .before .before .before .before in
-    c .before .before .before .before .open-then-append .ensures ∙ entered _ _ (asked .before .before .before .journal-count .ensures) (asked .before .before .if1 .left) _ (start .args .rows .now) (start .args .number) (start .args .step) (ap asks (sym (c .before .before .before .before .before .before .before .before .s2 .given .1)) ∙ asked .entry-of .ensures)
+    c .before .before .before .before .open-append-whole .ensures ∙ entered _ _ (asked .before .before .before .journal-count .ensures) (asked .before .before .if1 .left) _ (start .args .rows .now) (start .args .number) (start .args .step) (ap asks (sym (c .before .before .before .before .before .before .before .before .s2 .given .1)) ∙ asked .entry-of .ensures)
 
 pub enter-spec : {M : Type 1} → statement M
 enter-spec =
@@ -114,7 +114,7 @@ enter-spec =
     enum-told-2
     open-requires
     enum-known-s-2
-    open-then-append-requires
+    open-append-whole-requires
     same-length-2
     returns-2
     same-length-3

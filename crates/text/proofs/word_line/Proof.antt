@@ -1,0 +1,115 @@
+-- `text::word_line` meets its contract. The invariant: the line is the word's length, its count and its first i steps, in at most 2 bytes and 4 for
+-- each number behind the first. The measure is the number of steps left. Assumes nothing.
+use Prim.Native.Nat.{_+_, _*_, _-_, _≤_, _<_}
+use mathlib.Core.Path.{_≡_, _∙_}
+use mathlib.Core.List.{[], _∷_, _++_, append-assoc}
+use lib.ListN.{length, take, getD}
+use lib.Seq.{take-all}
+use borrow.Author.Tests.{lt-leb, le-leb}
+use Rattle.text.specs.Text.{decimal, spaced, wordLine}
+use Rattle.text.specs.Lines.{textIn}
+use Rattle.text.proofs.Decimals.{at-most}
+use Rattle.text.proofs.Spaced.{spaced-more, byte-room}
+use borrow.Author.Needs.{needs}
+use native.Mathlib.Omega.{arith}
+use Rattle.text.proofs.word_line.Statement.{statement}
+use Rattle.text.proofs.word_line.Tie as tie
+
+abbrev Inv-loop : tie.InvT-loop
+Inv-loop count word line₀ i₀ line i = (i ≤ length word) × (line .len ≤ 2 + 4 * (i + 1)) × (textIn line ≡ decimal (length word) ++ spaced (count ∷ take i word))
+
+abbrev μ-loop : tie.MeasureT-loop
+μ-loop count word line₀ i₀ line i = length word - i
+
+empty-requires : tie.Need-empty-requires Inv-loop μ-loop
+empty-requires c κs = search needs
+
+returns : tie.Need-returns Inv-loop μ-loop
+returns c =
+    let w = c .before .before .before .args .word .now in
+    (rw (lt-leb (length w) 15 (c .before .if1 .taken)) (c .empty .ensures .1), omega arith)
+
+empty-requires-2 : tie.Need-empty-requires-2 Inv-loop μ-loop
+empty-requires-2 c κs = search needs
+
+number-requires : tie.Need-number-requires Inv-loop μ-loop
+number-requires c κs = omega (arith, at-most 1 (length (c .before .before .before .args .word .now)) (omega arith))
+
+spaced-requires : tie.Need-spaced-requires Inv-loop μ-loop
+spaced-requires c κs =
+    let a = c .before .before .before .before .args in
+    omega (arith, at-most 1 (length (a .word .now)) (omega arith), byte-room (a .count) (search needs))
+
+loop-holds : tie.Need-loop-holds Inv-loop μ-loop
+loop-holds c =
+    let a = c .before .before .before .before .before .args in (
+      search needs,
+      omega (arith, at-most 1 (length (a .word .now)) (omega arith), byte-room (a .count) (search needs)),
+      rw (c .spaced .ensures .1, c .before .number .ensures .1, c .before .before .empty2 .ensures .1),
+    )
+
+shared-slice-read-spaced : tie.Need-shared-slice-read-spaced Inv-loop μ-loop
+shared-slice-read-spaced c = search needs
+
+cast-spaced : tie.Need-cast-spaced Inv-loop μ-loop
+cast-spaced c = omega (arith, c .shared-slice-known2 .given (c .before .before .loop .i))
+
+spaced-requires-2 : tie.Need-spaced-requires-2 Inv-loop μ-loop
+spaced-requires-2 c κs =
+    let i = c .before .before .loop .i in
+    let w = c .before .before .before .before .before .before .before .before .args .word .now in
+    let b : getD w i 0 < 256 = omega (arith, c .shared-slice-known2 .given i) in
+    omega (arith, byte-room (getD w i 0) b)
+
+add-i : tie.Need-add-i Inv-loop μ-loop
+add-i c = search needs
+
+loop-less : tie.Need-loop-less Inv-loop μ-loop
+loop-less c = search needs
+
+loop-again : tie.Need-loop-again Inv-loop μ-loop
+loop-again c =
+    let l = c .before .before .before .loop in
+    let i = l .i in
+    let a = c .before .before .before .before .before .before .before .before .before .args in
+    let w = a .word .now in
+    let b : getD w i 0 < 256 = omega (arith, c .before .shared-slice-known2 .given i) in (
+      omega arith,
+      omega (arith, byte-room (getD w i 0) b),
+      c .spaced2 .ensures .1 ∙ rw (l .inv .2, spaced-more (a .count) w i (omega arith)) (append-assoc (decimal (length w)) (spaced (a .count ∷ take i w)) (spaced (getD w i 0 ∷ []))),
+    )
+
+put-requires : tie.Need-put-requires Inv-loop μ-loop
+put-requires c κs = search needs
+
+returns-2 : tie.Need-returns-2 Inv-loop μ-loop
+unfolding wordLine
+returns-2 c =
+    let l = c .before .before .loop in
+    let a = c .before .before .before .before .before .before .before .before .args in
+    let w = a .word .now in
+    let e : length w ≤ 15 = omega arith in (
+      rw (le-leb (length w) 15 e) (c .put .ensures .1 ∙ rw (l .inv .2, take-all (l .i) w (omega arith))),
+      omega arith,
+    )
+
+pub word-line-spec : {M : Type 1} → statement M
+word-line-spec =
+    tie.close
+    (tie.spec
+    Inv-loop
+    μ-loop
+    empty-requires
+    returns
+    empty-requires-2
+    number-requires
+    spaced-requires
+    loop-holds
+    shared-slice-read-spaced
+    cast-spaced
+    spaced-requires-2
+    add-i
+    loop-less
+    loop-again
+    put-requires
+    returns-2)
