@@ -5,7 +5,8 @@ that come in pieces, are large, or fail. Prints a line for each that goes wrong,
     python3 tests/run_cases.py PROGRAM
 
 Each run has a folder of its own, with nothing in it but the ask.bin of the case. It must end by itself within a minute, not
-by a signal, and leave the folder as it was; and of standard output every byte is compared.
+by a signal, and leave the folder as it was; and of standard output every byte is compared. On standard error nothing may
+stand, but for the name of what couldn't be read or written.
 """
 import os
 import pty
@@ -61,12 +62,21 @@ class Wrong(Exception):
     """What a run did wrong."""
 
 
+INPUT, OUTPUT, ASK = b"standard input", b"standard output", b"ask.bin"
+
+
+def names(said, failed):
+    """Holds standard error to what failed, or to nothing."""
+    if not failed and said or failed and (not said.startswith(failed + b": ") or said.count(b"\n") != 1 or said[-1:] != b"\n"):
+        raise Wrong(f"says {said[:60]!r} on standard error, and {failed or 'nothing'!r} failed")
+
+
 def run(program, ask, stdin, stdout, feed=None, drain=None, before=None, signals=()):
     """Runs the program with these ends of standard input and output, which are closed here once it has them. Feed and drain
-    are called beside it, each in its own thread."""
+    are called beside it, each in its own thread. Gives back what it says on standard error."""
     with tempfile.TemporaryDirectory() as folder:
         put_ask(os.path.join(folder, "ask.bin"), ask)
-        child = subprocess.Popen([program], cwd=folder, stdin=stdin, stdout=stdout, stderr=subprocess.DEVNULL, preexec_fn=before)
+        child = subprocess.Popen([program], cwd=folder, stdin=stdin, stdout=stdout, stderr=subprocess.PIPE, preexec_fn=before)
         for end in stdin, stdout:
             os.close(end)
         beside = [threading.Thread(target=work, daemon=True) for work in (feed, drain) if work]
@@ -85,6 +95,8 @@ def run(program, ask, stdin, stdout, feed=None, drain=None, before=None, signals
             raise Wrong(f"ended by signal {-child.returncode}")
         if not is_left(folder, ask):
             raise Wrong("changed the folder")
+        with child.stderr:
+            return child.stderr.read()
 
 
 def read_end(end, out):
@@ -116,18 +128,18 @@ def ends(pair):
     return pair
 
 
-def text(program, ask, stdin, feed=None, before=None):
-    """What it prints into a pipe."""
+def text(program, ask, stdin, feed=None, before=None, failed=b""):
+    """What it prints into a pipe; failed is what can't be read."""
     out = []
     mine, its = ends(os.pipe())
-    run(program, ask, stdin, its, feed, lambda: read_end(mine, out), before)
+    names(run(program, ask, stdin, its, feed, lambda: read_end(mine, out), before), failed)
     return out[0]
 
 
-def text_of_pieces(program, ask, pieces, pause=0.0):
+def text_of_pieces(program, ask, pieces, pause=0.0, failed=b""):
     """What it prints where standard input is a pipe into which these pieces are written."""
     its, mine = ends(os.pipe())
-    return text(program, ask, its, lambda: write_end(mine, pieces, pause))
+    return text(program, ask, its, lambda: write_end(mine, pieces, pause), failed=failed)
 
 
 def text_of_file(program, ask, entries):
@@ -224,12 +236,12 @@ def random_cases(program):
 def failing_input(program):
     """Where standard input or the ask can't be read, nothing is printed: what couldn't be read is not empty or missing."""
     stdin, ask, _ = case("example")
-    yield "input is a directory", lambda: same(text(program, ask, os.open(HERE, os.O_RDONLY)), b"")
-    yield "input is closed", lambda: same(text(program, ask, nothing(), before=lambda: os.close(0)), b"")
-    yield "input is open for writing only", lambda: same(text(program, ask, os.open(os.devnull, os.O_WRONLY)), b"")
-    yield "input fails behind good entries", lambda: same(text(program, ask, failing_behind(stdin)), b"")
-    yield "ask is a directory", lambda: same(text_of_pieces(program, DIRECTORY, [stdin]), b"")
-    yield "ask is a link to itself", lambda: same(text_of_pieces(program, LOOP, [stdin]), b"")
+    yield "input is a directory", lambda: same(text(program, ask, os.open(HERE, os.O_RDONLY), failed=INPUT), b"")
+    yield "input is closed", lambda: same(text(program, ask, nothing(), before=lambda: os.close(0), failed=INPUT), b"")
+    yield "input is open for writing only", lambda: same(text(program, ask, os.open(os.devnull, os.O_WRONLY), failed=INPUT), b"")
+    yield "input fails behind good entries", lambda: same(text(program, ask, failing_behind(stdin), failed=INPUT), b"")
+    yield "ask is a directory", lambda: same(text_of_pieces(program, DIRECTORY, [stdin], failed=ASK), b"")
+    yield "ask is a link to itself", lambda: same(text_of_pieces(program, LOOP, [stdin], failed=ASK), b"")
     yield "refused before the ask, a directory", lambda: same(
         text_of_pieces(program, DIRECTORY, [stdin + b"\1"]), b"refused 11 record 6\n")
 
@@ -253,7 +265,7 @@ def up_to(program, name, most):
 
     its, mine = ends(os.pipe())
     with tempfile.TemporaryFile() as file:
-        run(program, ask, its, os.dup(file.fileno()), lambda: write_end(mine, [stdin], 0), before=before)
+        names(run(program, ask, its, os.dup(file.fileno()), lambda: write_end(mine, [stdin], 0), before=before), OUTPUT if most < len(due) else b"")
         file.seek(0)
         seen = file.read()
     same(seen, due if most >= len(due) else due[:len(seen)])
@@ -272,8 +284,9 @@ def no_large_writes(program, name):
                 out.append(piece)
 
     end, feeder = ends(os.pipe())
-    run(program, ask, end, its.detach(), lambda: write_end(feeder, [stdin], 0), drain)
+    said = run(program, ask, end, its.detach(), lambda: write_end(feeder, [stdin], 0), drain)
     seen = b"".join(out)
+    names(said, OUTPUT if seen != due else b"")
     if seen != due and (b"end" in seen or not due.startswith(seen)):
         raise Wrong(f"a write failed, and it goes on: {seen[-60:]!r}")
 
@@ -295,10 +308,10 @@ def reader_leaves(program, name, ignored):
 
 
 def to_end(program, name, stdout, before=None):
-    """Output that nobody can look at: it only has to end."""
+    """Output that fails and that nobody can look at: it has to end and to say so."""
     stdin, ask, _ = case(name)
     end, feeder = ends(os.pipe())
-    run(program, ask, end, stdout, lambda: write_end(feeder, [stdin], 0), before=before)
+    names(run(program, ask, end, stdout, lambda: write_end(feeder, [stdin], 0), before=before), OUTPUT)
 
 
 def failing_output(program):

@@ -8,3 +8,5 @@ pub mod Entries
 pub mod FeedCases
 pub mod LiveCount
 pub mod LiveRows
+pub mod Numbers
+pub mod Feeding

@@ -26,13 +26,22 @@ struct Printed {
     whole: bool,
 }
 
+// Prints text. Answers whether all of it was written; if not, that is said on standard error.
+fn print(text: &[u8]) -> bool {
+    if io::write_all(STDOUT_FILENO, text) {
+        return true;
+    }
+    os::fail(b"standard output");
+    false
+}
+
 // Prints a line. Answers whether all of it was written.
 pub(crate) fn print_line(line: Line) -> bool
     requires { ⌜ line .len ≤ 96 ⌝ }
 {
     let n = line.len;
     let bytes = line.bytes;
-    io::write_all(STDOUT_FILENO, &bytes[..n])
+    print(&bytes[..n])
 }
 
 // Puts a line into the text from a byte on. Answers where it ends.
@@ -89,7 +98,7 @@ fn print_page(rows: &[u8], page: &[u8], written: usize) -> bool
         end = put_line(&mut text, end, record_line(rows, &word_record));
         i += 1;
     }
-    io::write_all(STDOUT_FILENO, &text[..end])
+    print(&text[..end])
 }
 
 // The less of two numbers.
@@ -144,13 +153,10 @@ fn print_words(journals: &[u8], rows: &[u8], ask: Ask) -> Printed {
 // Prints the list: the first line, the words, and the last line once every word was written.
 pub(crate) fn print_list(journals: &[u8], rows: &[u8], k: usize, ask: Ask) {
     if !print_line(feed::first_line(k, feed::live_rows(rows))) {
-        os::fail(b"standard output");
         return;
     }
     let printed = print_words(journals, rows, ask);
-    if !printed.whole {
-        os::fail(b"standard output");
-        return;
+    if printed.whole {
+        print_line(feed::last_line(printed.words));
     }
-    print_line(feed::last_line(printed.words));
 }

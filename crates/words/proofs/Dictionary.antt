@@ -21,6 +21,23 @@ use Rattle.words.proofs.Test.{test}
 abbrev Mem : List ℕ → List (List ℕ) → Type 0
 Mem a l = List·Memᴰ a l
 
+over-all : (f : ℕ → List (List ℕ)) (x : List ℕ) (s : ℕ) (ss : List ℕ) → List·Memᴰ s ss → Mem x (f s) → Mem x (over f ss)
+over-all f x s [] m k = absurd (List·Memᴰ·not-nil m)
+over-all f x s (r ∷ ss) m k =
+    ⊎-elim (λ (e : s ≡ r). Memᴰ·append-left (over f ss) (rw e at k)) (λ (n : List·Memᴰ s ss). Memᴰ·append-right (f r) (over-all f x s ss n k)) (List·Memᴰ·cases-cons m)
+
+module _ (count : List ℕ → ℕ) (q : ℕ) where
+  -- every word that belongs in the list is there
+  from-all : Falling count → (n : ℕ) (u v : List ℕ) → IsWord v → length v ≤ n → q ≤ count (u ++ v) → Mem (u ++ v) (listFrom count q n u)
+  from-all fall zero u [] k b c = rw (append-nil u, le-leb q (count u) (rw append-nil at c)) (List·Memᴰ·head refl)
+  from-all fall zero u (s ∷ v) k b c = absurd (omega arith)
+  from-all fall (suc n) u [] k b c = rw (append-nil u, le-leb q (count u) (rw append-nil at c)) (List·Memᴰ·head refl)
+  from-all fall (suc n) u (s ∷ v) k b c =
+      let d : q ≤ count u = omega (arith, fall u (s ∷ v)) in
+      let m = from-all fall n (u ++ (s ∷ [])) v (k .1) (omega arith) (rw (append-snoc u s v) c) in
+      rw (le-leb q (count u) d)
+      (List·Memᴰ·tail (over-all (λ r. listFrom count q n (u ++ (r ∷ []))) (u ++ s ∷ v) s steps (code-mem s 16 0 (omega arith) (omega arith)) (rw (append-snoc u s v) at m)))
+
 over-only : (f : ℕ → List (List ℕ)) (x : List ℕ) (ss : List ℕ) → Mem x (over f ss) → (s : ℕ) × List·Memᴰ s ss × Mem x (f s)
 over-only f x [] m = absurd (List·Memᴰ·not-nil m)
 over-only f x (s ∷ ss) m = go (λ k. over-only f x ss k) (List·Memᴰ·append-cases (f s) m)
@@ -28,11 +45,6 @@ over-only f x (s ∷ ss) m = go (λ k. over-only f x ss k) (List·Memᴰ·append
     go : (Mem x (over f ss) → (r : ℕ) × List·Memᴰ r ss × Mem x (f r)) → Mem x (f s) ⊎ Mem x (over f ss) → (r : ℕ) × List·Memᴰ r (s ∷ ss) × Mem x (f r)
     go ih (inl k) = (s, List·Memᴰ·head refl, k)
     go ih (inr k) = let t = ih k in (t .0, List·Memᴰ·tail (t .1), t .2)
-
-over-all : (f : ℕ → List (List ℕ)) (x : List ℕ) (s : ℕ) (ss : List ℕ) → List·Memᴰ s ss → Mem x (f s) → Mem x (over f ss)
-over-all f x s [] m k = absurd (List·Memᴰ·not-nil m)
-over-all f x s (r ∷ ss) m k =
-    ⊎-elim (λ (e : s ≡ r). Memᴰ·append-left (over f ss) (rw e at k)) (λ (n : List·Memᴰ s ss). Memᴰ·append-right (f r) (over-all f x s ss n k)) (List·Memᴰ·cases-cons m)
 
 -- the order looks past what two words begin with
 before-front : (u a b : List ℕ) → before (u ++ a) (u ++ b) ≡ before a b
@@ -112,16 +124,6 @@ module _ (count : List ℕ → ℕ) (q : ℕ) where
       after : (b : List ℕ) → (s : ℕ) × List·Memᴰ s steps × Mem b (next s) → before u b ≡ true
       after b t = let r = begins (t .0) b (t .2) in rw (r .1) (ap (λ (a : List ℕ). before a (u ++ t .0 ∷ r .0)) (sym (append-nil u)) ∙ before-front u [] (t .0 ∷ r .0))
 
-  from-all : Falling count → (n : ℕ) (u v : List ℕ) → IsWord v → length v ≤ n → q ≤ count (u ++ v) → Mem (u ++ v) (listFrom count q n u)
-  from-all fall zero u [] k b c = rw (append-nil u, le-leb q (count u) (rw append-nil at c)) (List·Memᴰ·head refl)
-  from-all fall zero u (s ∷ v) k b c = absurd (omega arith)
-  from-all fall (suc n) u [] k b c = rw (append-nil u, le-leb q (count u) (rw append-nil at c)) (List·Memᴰ·head refl)
-  from-all fall (suc n) u (s ∷ v) k b c =
-      let d : q ≤ count u = omega (arith, fall u (s ∷ v)) in
-      let m = from-all fall n (u ++ (s ∷ [])) v (k .1) (omega arith) (rw (append-snoc u s v) c) in
-      rw (le-leb q (count u) d)
-      (List·Memᴰ·tail (over-all (λ r. listFrom count q n (u ++ (r ∷ []))) (u ++ s ∷ v) s steps (code-mem s 16 0 (omega arith) (omega arith)) (rw (append-snoc u s v) at m)))
-
   -- the list stands in dictionary order, each word once
   pub list-ascending : (n : ℕ) → Ascending (listOf count q n)
   unfolding listOf
@@ -130,7 +132,7 @@ module _ (count : List ℕ → ℕ) (q : ℕ) where
   -- a word is in the list exactly when it has at most n steps and its count reaches the quorum
   pub list-members : Falling count → (n : ℕ) (w : List ℕ) → List·Memᴰ w (listOf count q n) ↔ Shared count q n w
   unfolding listOf
-  list-members fall n w = (λ m. there (from-only n [] w m), λ h. from-all fall n [] w (h .word) (h .short) (h .reaches))
+  list-members fall n w = (λ m. there (from-only n [] w m), λ h. from-all count q fall n [] w (h .word) (h .short) (h .reaches))
     where
       there : Extends n [] w → Shared count q n w
       there e = record { word = rw (e .is) (e .word); short = rw (e .is) (e .short); reaches = e .reaches }

@@ -81,19 +81,6 @@ keep-only a x l m = test (live a) (λ t. go t (insert-only a x l (rw t at m))) (
 keep-ascending : (a : List ℕ) (l : List (List ℕ)) → Ascending l → Ascending (keep a l)
 keep-ascending a l h = test (live a) (λ t. rw t (insert-ascending a l h)) (λ f. rw f h)
 
-spread-old : (js : List (List ℕ)) (a x : List ℕ) (ss : List ℕ) (acc : List (List ℕ)) → Mem x acc → Mem x (spread js a ss acc)
-spread-old js a x [] acc m = m
-spread-old js a x (s ∷ ss) acc m = keep-old (step js a s) x (spread js a ss acc) (spread-old js a x ss acc m)
-
-spread-here : (js : List (List ℕ)) (a : List ℕ) (s : ℕ) (ss : List ℕ) (acc : List (List ℕ))
-    → List·Memᴰ s ss → live (step js a s) ≡ true → Mem (step js a s) (spread js a ss acc)
-spread-here js a s [] acc m t = absurd (List·Memᴰ·not-nil m)
-spread-here js a s (r ∷ ss) acc m t = go (λ k. spread-here js a s ss acc k t) (List·Memᴰ·cases-cons m)
-  where
-    go : (List·Memᴰ s ss → Mem (step js a s) (spread js a ss acc)) → (s ≡ r) ⊎ List·Memᴰ s ss → Mem (step js a s) (spread js a (r ∷ ss) acc)
-    go ih (inl e) = rw (← e) (keep-here (step js a s) (spread js a ss acc) t)
-    go ih (inr k) = keep-old (step js a r) (step js a s) (spread js a ss acc) (ih k)
-
 -- x is a live state one step from a
 abbrev From : List (List ℕ) → List ℕ → List ℕ → List ℕ → Type 0
 From js a ss x = (s : ℕ) × List·Memᴰ s ss × (x ≡ step js a s) × (live x ≡ true)
@@ -110,6 +97,19 @@ spread-only js a x (s ∷ ss) acc m = go (λ k. spread-only js a x ss acc k) (ke
         → From js a (s ∷ ss) x ⊎ Mem x acc
     go ih (inl e) = inl (s, List·Memᴰ·head refl, e .0, rw (e .0) (e .1))
     go ih (inr k) = up (ih k)
+
+spread-old : (js : List (List ℕ)) (a x : List ℕ) (ss : List ℕ) (acc : List (List ℕ)) → Mem x acc → Mem x (spread js a ss acc)
+spread-old js a x [] acc m = m
+spread-old js a x (s ∷ ss) acc m = keep-old (step js a s) x (spread js a ss acc) (spread-old js a x ss acc m)
+
+spread-here : (js : List (List ℕ)) (a : List ℕ) (s : ℕ) (ss : List ℕ) (acc : List (List ℕ))
+    → List·Memᴰ s ss → live (step js a s) ≡ true → Mem (step js a s) (spread js a ss acc)
+spread-here js a s [] acc m t = absurd (List·Memᴰ·not-nil m)
+spread-here js a s (r ∷ ss) acc m t = go (λ k. spread-here js a s ss acc k t) (List·Memᴰ·cases-cons m)
+  where
+    go : (List·Memᴰ s ss → Mem (step js a s) (spread js a ss acc)) → (s ≡ r) ⊎ List·Memᴰ s ss → Mem (step js a s) (spread js a (r ∷ ss) acc)
+    go ih (inl e) = rw (← e) (keep-here (step js a s) (spread js a ss acc) t)
+    go ih (inr k) = keep-old (step js a r) (step js a s) (spread js a ss acc) (ih k)
 
 spread-ascending : (js : List (List ℕ)) (a ss : List ℕ) (acc : List (List ℕ)) → Ascending acc → Ascending (spread js a ss acc)
 spread-ascending js a [] acc h = h

@@ -77,7 +77,7 @@ impl fmt::Display for Error {
             Error::WrongLength => "the list's length is above 15",
             Error::WrongWord => "the word is not well formed, or is longer than asked for",
             Error::BrokenEntry => "a journal entry is broken",
-            Error::WrongAsk => "the ask file does not have exactly two bytes",
+            Error::WrongAsk => "the ask file has 1 byte, or 3 or more",
             Error::WrongRow => "there is no such row: rows have the numbers 0 to 999",
         })
     }

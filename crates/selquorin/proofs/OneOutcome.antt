@@ -1,0 +1,23 @@
+-- No second outcome fits a packed answer. Where an answer isn't packed, the promise is that of the call of its name, and its
+-- theorem is there. Assumes nothing.
+use Prim.Native.Nat.{ℕ}
+use mathlib.Core.List.{List}
+use Rattle.books.proofs.OneOutcome.{OneOutcome, one-outcome}
+use Rattle.books.specs.TableCount.{tableCountCall}
+use Rattle.books.specs.JournalCount.{journalCountCall}
+use Rattle.books.specs.Check.{checkCall}
+use Rattle.list.specs.ListCall.{Asked, listCall}
+use Rattle.selquorin.specs.Packed.{packedCount, packedCheck, packedList}
+
+pub table-count-one : (rb w : List ℕ) → OneOutcome (packedCount (tableCountCall rb w))
+table-count-one rb w = one-outcome (packedCount (tableCountCall rb w))
+
+pub journal-count-one : (jb r : List ℕ) → OneOutcome (packedCount (journalCountCall jb r))
+journal-count-one jb r = one-outcome (packedCount (journalCountCall jb r))
+
+pub check-one : (jb rb : List ℕ) → OneOutcome (packedCheck (checkCall jb rb))
+check-one jb rb = one-outcome (packedCheck (checkCall jb rb))
+
+-- the list's answer, and its output
+pub list-one : (a : Asked) → OneOutcome (packedList (listCall a .answer)) × OneOutcome (listCall a .out)
+list-one a = (one-outcome (packedList (listCall a .answer)), one-outcome (listCall a .out))
