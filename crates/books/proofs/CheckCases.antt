@@ -17,9 +17,9 @@ module _ (jb rb : List ℕ) where
   unfolding checkCall
   check-size w = rw w
 
-  pub check-one : rightSizes jb rb ≡ true → journalForm jb ≡ false → checkCall jb rb ≡ checked 2 1 (firstWrongRecord jb) 0
+  pub check-book-one : rightSizes jb rb ≡ true → journalForm jb ≡ false → checkCall jb rb ≡ checked 2 1 (firstWrongRecord jb) 0
   unfolding checkCall
-  check-one w f = rw (w, f)
+  check-book-one w f = rw (w, f)
 
   pub check-formed : rightSizes jb rb ≡ true → journalForm jb ≡ true → checkCall jb rb ≡ checkRows (journalsOf jb) rb
   unfolding checkCall

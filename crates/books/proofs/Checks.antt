@@ -26,7 +26,7 @@ use Rattle.words.proofs.Test.{test}
 use Rattle.books.specs.declared.Checked.{Checked}
 use Rattle.books.proofs.Refusals.{first-given}
 use Rattle.books.proofs.BookSizes.{both-sized}
-use Rattle.books.proofs.CheckCases.{check-size, check-one, check-formed, rows-many, rows-compared, compared-right, compared-wrong}
+use Rattle.books.proofs.CheckCases.{check-size, check-book-one, check-formed, rows-many, rows-compared, compared-right, compared-wrong}
 
 module _ (jb rb : List ℕ) where
   abbrev js : List (List ℕ)
@@ -80,7 +80,7 @@ module _ (jb rb : List ℕ) where
           test (same rb (rowBook js)) (λ s. rw (check-right w f m s) (all-right (whole f m s))) (λ s. differing w f m s))
 
       sized : rightSizes jb rb ≡ true → Verdict jb rb (checkCall jb rb)
-      sized w = test (journalForm jb) (λ f. formed w f) (λ f. rw (check-one jb rb w f) (book-one w (wrong-first jb (both-sized jb rb w .0) f)))
+      sized w = test (journalForm jb) (λ f. formed w f) (λ f. rw (check-book-one jb rb w f) (book-one w (wrong-first jb (both-sized jb rb w .0) f)))
 
   -- sound books have their sizes
   pub sound-sizes : sound jb rb ≡ true → rightSizes jb rb ≡ true
@@ -91,7 +91,7 @@ module _ (jb rb : List ℕ) where
   verdict-check (wrong-sizes w) = sym (check-size jb rb w)
   verdict-check (book-one {r = r} w f) =
       test (journalForm jb) (λ t. absurd (form-right jb t r (f .within) (f .wrong)))
-      (λ s. ap (λ (n : ℕ). checked 2 1 n 0) (wrong-unique jb r (firstWrongRecord jb) f (wrong-first jb (both-sized jb rb w .0) s)) ∙ sym (check-one jb rb w s))
+      (λ s. ap (λ (n : ℕ). checked 2 1 n 0) (wrong-unique jb r (firstWrongRecord jb) f (wrong-first jb (both-sized jb rb w .0) s)) ∙ sym (check-book-one jb rb w s))
   verdict-check (too-many w f m) = sym (check-many w f m)
   verdict-check (book-two {r = r} {i = i} w f m b d) =
       test (same rb (rowBook js)) (λ s. absurd (equal s))

@@ -6,9 +6,9 @@
 //! how many journals a word is, and list the words that at least a given number of journals hold.
 //!
 //! The calls themselves are proved and come from the static library `libselquorin.a`. This crate
-//! only lends it memory: it makes wrong sizes and steps above 15 impossible by types, and turns
-//! the library's numbers into [`Error`]s and a [`Verdict`]. The module [`raw`] has the calls as
-//! they are, for bytes of any length and content.
+//! only lends it memory: [`Books`], [`Word`]s and [`Step`]s have right sizes and codes once they are
+//! made, and the library's numbers become [`Error`]s and a [`Verdict`]. The module [`raw`] has the
+//! calls as they are, for bytes of any length and content.
 //!
 //! ```
 //! use selquorin::{Books, Error, Step, Verdict, Word};

@@ -4,7 +4,7 @@ use Prim.Native.Nat.{ℕ}
 use Rattle.books.specs.Check.{checked}
 use Rattle.books.proofs.Said.{said-no, said-yes}
 use Rattle.books.proofs.BookSizes.{both-sized}
-use Rattle.books.proofs.CheckCases.{check-size, check-one, check-formed}
+use Rattle.books.proofs.CheckCases.{check-size, check-book-one, check-formed}
 use Rattle.books.proofs.JournalCountCases.{form-by, form-not}
 use borrow.Author.Needs.{needs}
 use Rattle.books.proofs.check.Statement.{statement}
@@ -31,7 +31,7 @@ returns-2 c =
     let jb = c .before .before .before .before .before .before .before .args .journals .now in
     let w = said-yes (c .before .before .before .before .right-sizes .ensures) (c .before .before .before .if1 .left) in
     let e = c .before .before .first-wrong-record .ensures in
-    c .at2 .ensures ∙ ap (λ (n : ℕ). checked 2 1 n 0) e ∙ sym (check-one jb rb w (form-not jb (both-sized jb rb w .0) (λ z. c .before .if2 .taken (e ∙ z))))
+    c .at2 .ensures ∙ ap (λ (n : ℕ). checked 2 1 n 0) e ∙ sym (check-book-one jb rb w (form-not jb (both-sized jb rb w .0) (λ z. c .before .if2 .taken (e ∙ z))))
 
 check-rows-requires : tie.Need-check-rows-requires
 check-rows-requires c κs =
