@@ -77,9 +77,9 @@ fn open_append_whole(journals: &mut [u8], rows: &mut [u8], step: u8) -> u8
     let mut new_rows = [0u8; ROW_BOOK];
     copy_all(journals, &mut new_journals);
     copy_all(rows, &mut new_rows);
-    let number = open_append(&mut new_journals, &mut new_rows, step);
-    if number != DONE {
-        return number;
+    let both = open_append(&mut new_journals, &mut new_rows, step);
+    if both != DONE {
+        return both;
     }
     copy_all(&new_journals, journals);
     copy_all(&new_rows, rows);
