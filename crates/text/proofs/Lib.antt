@@ -1,2 +1,4 @@
 pub mod Decimals
 pub mod Spaced
+pub mod Longer
+pub mod OneOutcome

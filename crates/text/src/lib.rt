@@ -3,30 +3,33 @@
 use records::LONGEST_WORD;
 ghost use mathlib.Core.Path.{_≡_};
 ghost use mathlib.Core.Bool.{cond};
-ghost use mathlib.Core.List.{[], _∷_, _++_};
+ghost use mathlib.Core.List.{[], _∷_};
 ghost use Prim.Native.Nat.{_+_, _≤_, _<_};
 ghost use lib.ListN.{length};
 ghost use lib.Dec.{leb};
 ghost use Rattle.text.specs.Text.{decimal, spaced, firstLine, wordLine, lastLine, refusedEntryLine, refusedAskLine};
-ghost use Rattle.text.specs.Lines.{textIn};
+ghost use Rattle.text.specs.Lines.{lineOf, Longer};
 
 const SPACE: u8 = 32;
 
 const LINE_END: u8 = 10;
 
-// A line of at most 96 bytes.
+// The bytes of a line.
+const LINE: usize = 96;
+
+// A line of at most 96 bytes. Those behind its text are 0.
 pub struct Line {
-    pub bytes: [u8; 96],
+    pub bytes: [u8; LINE],
     pub len: usize,
 }
 
 impl Line {
     // A line with nothing in it yet.
     fn empty() -> Line
-        ensures { λ r. ⌜ (r .len ≡ 0) × (textIn r ≡ []) ⌝ }
+        ensures { λ r. ⌜ (r .len ≡ 0) × (r ≡ lineOf []) ⌝ }
     {
         Line {
-            bytes: [0u8; 96],
+            bytes: [0u8; LINE],
             len: 0,
         }
     }
@@ -34,7 +37,7 @@ impl Line {
     // The line with one byte more.
     fn put(self, byte: u8) -> Line
         requires { ⌜ self .len < 96 ⌝ }
-        ensures { λ r. ⌜ (r .len ≡ self .len + 1) × (textIn r ≡ textIn self ++ (byte ∷ [])) ⌝ }
+        ensures { λ r. ⌜ Longer self (byte ∷ []) r ⌝ }
     {
         let n = self.len;
         let mut bytes = self.bytes;
@@ -45,7 +48,7 @@ impl Line {
     // The line with a name behind it.
     fn name(self, name: &[u8]) -> Line
         requires { ⌜ self .len + length (now name) ≤ 96 ⌝ }
-        ensures { λ r. ⌜ (r .len ≡ self .len + length (now (name .entry))) × (textIn r ≡ textIn self ++ now (name .entry)) ⌝ }
+        ensures { λ r. ⌜ Longer self (now (name .entry)) r ⌝ }
     {
         let mut line = self;
         let mut i = 0;
@@ -59,7 +62,7 @@ impl Line {
     // The line with a number in decimal behind it.
     fn number(self, x: usize) -> Line
         requires { ⌜ self .len + length (decimal x) ≤ 96 ⌝ }
-        ensures { λ r. ⌜ (r .len ≡ self .len + length (decimal x)) × (textIn r ≡ textIn self ++ decimal x) ⌝ }
+        ensures { λ r. ⌜ Longer self (decimal x) r ⌝ }
     {
         if x < 10 {
             return self.put(48 + (x % 10) as u8);
@@ -71,7 +74,7 @@ impl Line {
     // The line with a space and a number in decimal behind it.
     fn spaced(self, x: usize) -> Line
         requires { ⌜ self .len + length (spaced (x ∷ [])) ≤ 96 ⌝ }
-        ensures { λ r. ⌜ (r .len ≡ self .len + length (spaced (x ∷ []))) × (textIn r ≡ textIn self ++ spaced (x ∷ [])) ⌝ }
+        ensures { λ r. ⌜ Longer self (spaced (x ∷ [])) r ⌝ }
     {
         self.put(SPACE).number(x)
     }
@@ -79,7 +82,7 @@ impl Line {
 
 // First line: how many journals there are, and how many live rows.
 pub fn first_line(k: usize, rows: usize) -> Line
-    ensures { λ r. ⌜ textIn r ≡ firstLine k rows ⌝ }
+    ensures { λ r. ⌜ r ≡ lineOf (firstLine k rows) ⌝ }
     ensures fits { λ r. ⌜ r .len ≤ 96 ⌝ }
 {
     Line::empty()
@@ -92,7 +95,7 @@ pub fn first_line(k: usize, rows: usize) -> Line
 
 // A word's line: its length, its count, its steps. A word longer than any that is listed has no line.
 pub fn word_line(count: u8, word: &[u8]) -> Line
-    ensures { λ r. ⌜ textIn r ≡ cond (leb (length (now (word .entry))) 15) (wordLine count (now (word .entry))) [] ⌝ }
+    ensures { λ r. ⌜ r ≡ lineOf (cond (leb (length (now (word .entry))) 15) (wordLine count (now (word .entry))) []) ⌝ }
     ensures fits { λ r. ⌜ r .len ≤ 96 ⌝ }
 {
     if LONGEST_WORD < word.len() {
@@ -109,7 +112,7 @@ pub fn word_line(count: u8, word: &[u8]) -> Line
 
 // Last line: the number of words.
 pub fn last_line(words: usize) -> Line
-    ensures { λ r. ⌜ textIn r ≡ lastLine words ⌝ }
+    ensures { λ r. ⌜ r ≡ lineOf (lastLine words) ⌝ }
     ensures fits { λ r. ⌜ r .len ≤ 96 ⌝ }
 {
     Line::empty().name(b"end").spaced(words).put(LINE_END)
@@ -117,7 +120,7 @@ pub fn last_line(words: usize) -> Line
 
 // The line of a refused entry: its number, and which entry it is, from 0.
 pub fn refused_entry_line(number: u8, entry: usize) -> Line
-    ensures { λ r. ⌜ textIn r ≡ refusedEntryLine number entry ⌝ }
+    ensures { λ r. ⌜ r ≡ lineOf (refusedEntryLine number entry) ⌝ }
     ensures fits { λ r. ⌜ r .len ≤ 96 ⌝ }
 {
     Line::empty()
@@ -130,7 +133,7 @@ pub fn refused_entry_line(number: u8, entry: usize) -> Line
 
 // The line of a refused ask.
 pub fn refused_ask_line(number: u8) -> Line
-    ensures { λ r. ⌜ textIn r ≡ refusedAskLine number ⌝ }
+    ensures { λ r. ⌜ r ≡ lineOf (refusedAskLine number) ⌝ }
     ensures fits { λ r. ⌜ r .len ≤ 96 ⌝ }
 {
     Line::empty()

@@ -40,7 +40,7 @@ unfolding firstLine
 returns c =
     let d = c .before .before .before .before in
     let a = d .before .before .before .before .args in (
-      rw (c .put .ensures .1, c .before .spaced2 .ensures .1, c .before .before .name2 .ensures .1, d .spaced .ensures .1, d .before .name .ensures .1, d .before .before .before .empty .ensures .1),
+      c .put .ensures .text _ (c .before .spaced2 .ensures .text _ (c .before .before .name2 .ensures .text _ (d .spaced .ensures .text _ (d .before .name .ensures .text _ (d .before .before .before .empty .ensures .1))))),
       omega (arith, number-room (a .k) (search needs), number-room (a .rows) (search needs)),
     )
 

@@ -25,7 +25,7 @@ put-requires c κs = omega (arith, number-room (c .before .before .before .befor
 returns : tie.Need-returns
 unfolding lastLine
 returns c = (
-  rw (c .put .ensures .1, c .before .spaced .ensures .1, c .before .before .name .ensures .1, c .before .before .before .before .empty .ensures .1),
+  c .put .ensures .text _ (c .before .spaced .ensures .text _ (c .before .before .name .ensures .text _ (c .before .before .before .before .empty .ensures .1))),
   omega (arith, number-room (c .before .before .before .before .before .args .words) (search needs)),
 )
 

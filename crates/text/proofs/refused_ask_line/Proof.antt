@@ -32,7 +32,7 @@ returns : tie.Need-returns
 unfolding refusedAskLine
 returns c =
     let d = c .before .before .before in (
-      rw (c .put .ensures .1, c .before .name2 .ensures .1, d .spaced .ensures .1, d .before .name .ensures .1, d .before .before .before .empty .ensures .1),
+      c .put .ensures .text _ (c .before .name2 .ensures .text _ (d .spaced .ensures .text _ (d .before .name .ensures .text _ (d .before .before .before .empty .ensures .1)))),
       omega (arith, byte-room (d .before .before .before .before .args .number) (search needs)),
     )
 

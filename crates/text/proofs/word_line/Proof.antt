@@ -1,22 +1,21 @@
--- `text::word_line` meets its contract. The invariant: the line is the word's length, its count and its first i steps, in at most 2 bytes and 4 for
+-- `text::word_line` meets its contract. The invariant: the line is the word's length, its count and its first i steps, in at most 3 bytes and 4 for
 -- each number behind the first. The measure is the number of steps left. Assumes nothing.
 use Prim.Native.Nat.{_+_, _*_, _-_, _≤_, _<_}
-use mathlib.Core.Path.{_≡_, _∙_}
-use mathlib.Core.List.{[], _∷_, _++_, append-assoc}
+use mathlib.Core.Path.{_≡_}
+use mathlib.Core.List.{_∷_, _++_}
 use lib.ListN.{length, take, getD}
 use lib.Seq.{take-all}
 use borrow.Author.Tests.{lt-leb, le-leb}
 use Rattle.text.specs.Text.{decimal, spaced, wordLine}
-use Rattle.text.specs.Lines.{textIn}
-use Rattle.text.proofs.Decimals.{at-most}
-use Rattle.text.proofs.Spaced.{spaced-more, byte-room}
+use Rattle.text.specs.Lines.{lineOf}
+use Rattle.text.proofs.Spaced.{spaced-more, byte-room, byte-first}
 use borrow.Author.Needs.{needs}
 use native.Mathlib.Omega.{arith}
 use Rattle.text.proofs.word_line.Statement.{statement}
 use Rattle.text.proofs.word_line.Tie as tie
 
 abbrev Inv-loop : tie.InvT-loop
-Inv-loop count word line₀ i₀ line i = (i ≤ length word) × (line .len ≤ 2 + 4 * (i + 1)) × (textIn line ≡ decimal (length word) ++ spaced (count ∷ take i word))
+Inv-loop count word line₀ i₀ line i = (i ≤ length word) × (line .len ≤ 3 + 4 * (i + 1)) × (line ≡ lineOf (decimal (length word) ++ spaced (count ∷ take i word)))
 
 abbrev μ-loop : tie.MeasureT-loop
 μ-loop count word line₀ i₀ line i = length word - i
@@ -33,19 +32,19 @@ empty-requires-2 : tie.Need-empty-requires-2 Inv-loop μ-loop
 empty-requires-2 c κs = search needs
 
 number-requires : tie.Need-number-requires Inv-loop μ-loop
-number-requires c κs = omega (arith, at-most 1 (length (c .before .before .before .args .word .now)) (omega arith))
+number-requires c κs = byte-first _ _ (c .empty2 .ensures .0) (omega arith)
 
 spaced-requires : tie.Need-spaced-requires Inv-loop μ-loop
 spaced-requires c κs =
     let a = c .before .before .before .before .args in
-    omega (arith, at-most 1 (length (a .word .now)) (omega arith), byte-room (a .count) (search needs))
+    omega (arith, byte-room (length (a .word .now)) (omega arith), byte-room (a .count) (search needs))
 
 loop-holds : tie.Need-loop-holds Inv-loop μ-loop
 loop-holds c =
     let a = c .before .before .before .before .before .args in (
       search needs,
-      omega (arith, at-most 1 (length (a .word .now)) (omega arith), byte-room (a .count) (search needs)),
-      rw (c .spaced .ensures .1, c .before .number .ensures .1, c .before .before .empty2 .ensures .1),
+      omega (arith, byte-room (length (a .word .now)) (omega arith), byte-room (a .count) (search needs)),
+      c .spaced .ensures .text _ (c .before .number .ensures .text _ (c .before .before .empty2 .ensures .1)),
     )
 
 shared-slice-read-spaced : tie.Need-shared-slice-read-spaced Inv-loop μ-loop
@@ -76,7 +75,7 @@ loop-again c =
     let b : getD w i 0 < 256 = omega (arith, c .before .shared-slice-known2 .given i) in (
       omega arith,
       omega (arith, byte-room (getD w i 0) b),
-      c .spaced2 .ensures .1 ∙ rw (l .inv .2, spaced-more (a .count) w i (omega arith)) (append-assoc (decimal (length w)) (spaced (a .count ∷ take i w)) (spaced (getD w i 0 ∷ []))),
+      rw (spaced-more (decimal (length w)) (a .count) w i (omega arith)) (c .spaced2 .ensures .text _ (l .inv .2)),
     )
 
 put-requires : tie.Need-put-requires Inv-loop μ-loop
@@ -89,7 +88,7 @@ returns-2 c =
     let a = c .before .before .before .before .before .before .before .before .args in
     let w = a .word .now in
     let e : length w ≤ 15 = omega arith in (
-      rw (le-leb (length w) 15 e) (c .put .ensures .1 ∙ rw (l .inv .2, take-all (l .i) w (omega arith))),
+      rw (le-leb (length w) 15 e) (rw (take-all (l .i) w (omega arith)) at (c .put .ensures .text _ (l .inv .2))),
       omega arith,
     )
 

@@ -2,13 +2,11 @@
 -- of it, which the call puts behind the line, and its last digit behind that (`Decimals.antt`). Assumes nothing.
 use native.Mathlib.Omega.{arith}
 use borrow.Author.Needs.{needs}
-use mathlib.Core.Path.{_≡_, ap, _∙_}
-use mathlib.Core.List.{[], _∷_, append-assoc}
+use mathlib.Core.Path.{_≡_, ap}
 use lib.ListN.{length}
-use Rattle.text.specs.Text.{decimal}
-use Rattle.text.specs.Lines.{textIn}
 use Rattle.text.proofs.Decimals.{one-digit, more-digits, one-more}
-use Prim.Native.Nat.{ℕ, _+_, _/_, _%_, _<_}
+use Rattle.text.proofs.Longer.{longer-on}
+use Prim.Native.Nat.{ℕ, _%_, _<_}
 use borrow.Fn.Kinds.{In}
 use borrow.Fn.PlainCycle.{Measures, is, falls, and}
 use Rattle.text.proofs.Line.number.Reads as number
@@ -58,11 +56,9 @@ number-returns : (t : ℕ) → number-lts.Need-returns (
   number.Post,
 ) (number-at t) number.Post
 number-returns t c =
-    let s = c .before .before in
-    let x = s .args .x in
+    let x = c .before .before .args .x in
     let e : x % 10 ≡ x = omega arith in
-    let d = one-digit x (c .before .if1 .taken) in
-    (rw d (c .put .ensures .0), rw d (rw e at (c .put .ensures .1)))
+    rw (one-digit x (c .before .if1 .taken)) (rw e at (c .put .ensures))
 
 number-number-requires : (t : ℕ) → number-lts.Need-number-requires (
   put-reads.Asked,
@@ -105,13 +101,7 @@ number-returns-2 : (t : ℕ) → number-lts.Need-returns-2 (
   number.Post,
 ) (number-at t) number.Post
 number-returns-2 t c =
-    let s = c .before .before .before in
-    let x = s .args .x in
-    let m = c .before .number .ensures in
-    let l = c .before .before .if1 .left in (
-      omega (arith, one-more x l),
-      c .put2 .ensures .1 ∙ rw (m .1, more-digits x l) (append-assoc (textIn (s .args .self)) (decimal (x / 10)) ((48 + x % 10) ∷ [])),
-    )
+    rw (more-digits (c .before .before .before .args .x) (c .before .before .if1 .left)) (longer-on (c .before .number .ensures) (c .put2 .ensures))
 
 pub +number-spec : {M : Type 1} → statement M
 +number-spec = close μ-number λ t. number-lts.spec (

@@ -1,10 +1,8 @@
 -- `text::Line::spaced` meets its contract: a number with a space before it is the space and the number's digits (`Spaced.antt`). Assumes nothing.
-use mathlib.Core.Path.{ap, _∙_}
-use mathlib.Core.List.{[], _∷_, append-assoc}
+use mathlib.Core.Path.{ap}
 use lib.ListN.{length}
-use Rattle.text.specs.Text.{space, decimal}
-use Rattle.text.specs.Lines.{textIn}
 use Rattle.text.proofs.Spaced.{spaced-one}
+use Rattle.text.proofs.Longer.{longer-on}
 use native.Mathlib.Omega.{arith}
 use Rattle.text.proofs.Line.spaced.Statement.{statement}
 use Rattle.text.proofs.Line.spaced.Tie as tie
@@ -16,12 +14,7 @@ number-requires : tie.Need-number-requires
 number-requires c κs = omega (arith, ap length (spaced-one (c .before .args .x)))
 
 returns : tie.Need-returns
-returns c =
-    let a = c .before .before .args in
-    let e = spaced-one (a .x) in (
-      omega (arith, ap length e),
-      c .number .ensures .1 ∙ rw (c .before .put .ensures .1, e) (append-assoc (textIn (a .self)) (space ∷ []) (decimal (a .x))),
-    )
+returns c = rw (spaced-one (c .before .before .args .x)) (longer-on (c .before .put .ensures) (c .number .ensures))
 
 pub spaced-spec : {M : Type 1} → statement M
 spaced-spec = tie.close (tie.spec put-requires number-requires returns)
