@@ -1,4 +1,6 @@
 // The calls for programs in C or Rust: each is the call of its name, with its answer in one number.
+
+use books::Counted;
 ghost use mathlib.Core.Path.{_≡_};
 ghost use mathlib.Core.Bool.{not};
 ghost use lib.Dec.{eqb};
@@ -36,26 +38,29 @@ pub extern "C" fn selquorin_append(journals: &mut [u8], rows: &mut [u8], step: u
     books::append(journals, rows, step)
 }
 
-// Counts a word by the row book: the number, and the count 256 times.
+// A count's answer in one number: its number, and the count 256 times.
+fn packed_count(counted: Counted) -> u32
+    ensures { λ r. ⌜ r ≡ packedCount counted ⌝ }
+{
+    let number = counted.number;
+    let count = counted.count;
+    number as u32 + 256 * (count as u32)
+}
+
+// Counts a word by the row book.
 #[no_mangle]
 pub extern "C" fn selquorin_table_count(rows: &[u8], word: &[u8]) -> u32
     ensures { λ r. ⌜ r ≡ packedCount (tableCountCall (now (rows .entry)) (now (word .entry))) ⌝ }
 {
-    let seen = books::table_count(rows, word);
-    let number = seen.number;
-    let count = seen.count;
-    number as u32 + 256 * (count as u32)
+    packed_count(books::table_count(rows, word))
 }
 
-// Counts a word by the journal book: the number, and the count 256 times.
+// Counts a word by the journal book.
 #[no_mangle]
 pub extern "C" fn selquorin_journal_count(journals: &[u8], word_record: &[u8]) -> u32
     ensures { λ r. ⌜ r ≡ packedCount (journalCountCall (now (journals .entry)) (now (word_record .entry))) ⌝ }
 {
-    let seen = books::journal_count(journals, word_record);
-    let number = seen.number;
-    let count = seen.count;
-    number as u32 + 256 * (count as u32)
+    packed_count(books::journal_count(journals, word_record))
 }
 
 // Checks both books: the number, the book 2^8 times, the record 2^16 times and the byte 2^32 times.

@@ -143,6 +143,56 @@ impl Side {
     }
 }
 
+/// Makes a call on one side by the functions of its module, which have the same names on both sides; `$after` says how
+/// the list is told to go on after a word.
+macro_rules! made_by {
+    ($module:ident, $side:expr, $sizes:expr, $call:expr, $out:expr, $after:expr) => {{
+        let sizes = $sizes;
+        let changed = |number| Answer::new(number, 0, 0, 0);
+        match $call {
+            Call::Clear => {
+                let (journals, rows) = $side.write(sizes);
+                changed($module::clear(journals, rows))
+            }
+            Call::Open => {
+                let (journals, rows) = $side.write(sizes);
+                changed($module::open(journals, rows))
+            }
+            Call::Append(step) => {
+                let (journals, rows) = $side.write(sizes);
+                changed($module::append(journals, rows, *step))
+            }
+            Call::TableCount(word) => {
+                let answer = $module::table_count($side.read(sizes).1, word);
+                Answer::new(answer.number, answer.count.into(), 0, 0)
+            }
+            Call::JournalCount(record) => {
+                let answer = $module::journal_count($side.read(sizes).0, record);
+                Answer::new(answer.number, answer.count.into(), 0, 0)
+            }
+            Call::Check => {
+                let (journals, rows) = $side.read(sizes);
+                let seen = $module::check(journals, rows);
+                Answer::new(seen.number, seen.book.into(), seen.record, seen.byte)
+            }
+            Call::List {
+                quorum,
+                length,
+                after,
+                record,
+                ..
+            } => {
+                let (journals, rows) = $side.read(sizes);
+                let after = $after(*after);
+                let answer = $module::list(journals, rows, *quorum, *length, after, record, $out);
+                Answer::new(answer.number, answer.more.into(), answer.written, 0)
+            }
+            // The record itself can't cross the C interface, only its number can.
+            Call::Row(row) => changed($module::row_record_number($side.read(sizes).1, *row)),
+        }
+    }};
+}
+
 /// The same books on both sides.
 #[derive(Clone)]
 pub struct Pair {
@@ -253,93 +303,12 @@ impl Pair {
     }
 
     fn by_library(&mut self, call: &Call, out: &mut [u8]) -> Answer {
-        let sizes = self.sizes;
-        let changed = |number| Answer::new(number, 0, 0, 0);
-        match call {
-            Call::Clear => {
-                let (journals, rows) = self.library.write(sizes);
-                changed(raw::clear(journals, rows))
-            }
-            Call::Open => {
-                let (journals, rows) = self.library.write(sizes);
-                changed(raw::open(journals, rows))
-            }
-            Call::Append(step) => {
-                let (journals, rows) = self.library.write(sizes);
-                changed(raw::append(journals, rows, *step))
-            }
-            Call::TableCount(word) => {
-                let answer = raw::table_count(self.library.read(sizes).1, word);
-                Answer::new(answer.number, answer.count.into(), 0, 0)
-            }
-            Call::JournalCount(record) => {
-                let answer = raw::journal_count(self.library.read(sizes).0, record);
-                Answer::new(answer.number, answer.count.into(), 0, 0)
-            }
-            Call::Check => {
-                let (journals, rows) = self.library.read(sizes);
-                let seen = raw::check(journals, rows);
-                Answer::new(seen.number, seen.book.into(), seen.record, seen.byte)
-            }
-            Call::List {
-                quorum,
-                length,
-                after,
-                record,
-                ..
-            } => {
-                let (journals, rows) = self.library.read(sizes);
-                let answer = raw::list(journals, rows, *quorum, *length, *after, record, out);
-                Answer::new(answer.number, answer.more.into(), answer.written, 0)
-            }
-            // The record itself can't cross the C interface, only its number can.
-            Call::Row(row) => changed(raw::row_record_number(self.library.read(sizes).1, *row)),
-        }
+        made_by!(raw, self.library, self.sizes, call, out, |after: u8| after)
     }
 
     fn by_plain(&mut self, call: &Call, out: &mut [u8]) -> Answer {
-        let sizes = self.sizes;
-        let changed = |number| Answer::new(number, 0, 0, 0);
-        match call {
-            Call::Clear => {
-                let (journals, rows) = self.plain.write(sizes);
-                changed(plain::clear(journals, rows))
-            }
-            Call::Open => {
-                let (journals, rows) = self.plain.write(sizes);
-                changed(plain::open(journals, rows))
-            }
-            Call::Append(step) => {
-                let (journals, rows) = self.plain.write(sizes);
-                changed(plain::append(journals, rows, *step))
-            }
-            Call::TableCount(word) => {
-                let answer = plain::table_count(self.plain.read(sizes).1, word);
-                Answer::new(answer.number, answer.count.into(), 0, 0)
-            }
-            Call::JournalCount(record) => {
-                let answer = plain::journal_count(self.plain.read(sizes).0, record);
-                Answer::new(answer.number, answer.count.into(), 0, 0)
-            }
-            Call::Check => {
-                let (journals, rows) = self.plain.read(sizes);
-                let seen = plain::check(journals, rows);
-                Answer::new(seen.number, seen.book.into(), seen.record, seen.byte)
-            }
-            Call::List {
-                quorum,
-                length,
-                after,
-                record,
-                ..
-            } => {
-                let (journals, rows) = self.plain.read(sizes);
-                let after = *after != 0;
-                let answer = plain::list(journals, rows, *quorum, *length, after, record, out);
-                Answer::new(answer.number, answer.more.into(), answer.written, 0)
-            }
-            Call::Row(row) => changed(plain::row_record_number(self.plain.read(sizes).1, *row)),
-        }
+        made_by!(plain, self.plain, self.sizes, call, out, |after: u8| after
+            != 0)
     }
 }
 
