@@ -12,6 +12,8 @@ ghost use mathlib.Core.Path.{_≡_};
 ghost use mathlib.Core.Bool.{true};
 ghost use Prim.Native.Nat.{_<_};
 ghost use lib.ListN.{length};
+ghost use Rattle.words.specs.Limits.{longestJournal};
+ghost use Rattle.records.specs.Sizes.{journalBookSize};
 ghost use Rattle.words.specs.Journals.{appendedAt, appended, lastOf, stepsAt};
 ghost use Rattle.records.specs.JournalBook.{journalForm, journalsOf, journalBook};
 ghost use Rattle.books.specs.Numbers.{first};
@@ -41,7 +43,7 @@ pub(crate) fn decide_append(journals: &[u8], rows: &[u8], step: u8) -> u8
 
 // Puts a step at the end of journal i, which has room for it.
 fn put_step(journals: &mut [u8], i: usize, step: u8)
-    requires { ⌜ (journalForm (now journals) ≡ true) × (i < length (journalsOf (now journals))) × (stepsAt i (journalsOf (now journals)) < 200) ⌝ }
+    requires { ⌜ (journalForm (now journals) ≡ true) × (i < length (journalsOf (now journals))) × (stepsAt i (journalsOf (now journals)) < longestJournal) ⌝ }
     ensures { λ _. ⌜ now (journals .exit) ≡ journalBook (appendedAt i step (journalsOf (now (journals .entry)))) ⌝ }
 {
     let at = JOURNAL_RECORD * i;
@@ -52,7 +54,7 @@ fn put_step(journals: &mut [u8], i: usize, step: u8)
 
 // The journal book with a step more at the last journal's end, in scratch.
 pub(crate) fn with_step(journals: &[u8], longer: &mut [u8], step: u8)
-    requires { ⌜ (journalForm (now journals) ≡ true) × (0 < length (journalsOf (now journals))) × (stepsAt (lastOf (journalsOf (now journals))) (journalsOf (now journals)) < 200) × (length (now longer) ≡ 4096) ⌝ }
+    requires { ⌜ (journalForm (now journals) ≡ true) × (0 < length (journalsOf (now journals))) × (stepsAt (lastOf (journalsOf (now journals))) (journalsOf (now journals)) < longestJournal) × (length (now longer) ≡ journalBookSize) ⌝ }
     ensures { λ _. ⌜ now (longer .exit) ≡ journalBook (appended step (journalsOf (now (journals .entry)))) ⌝ }
 {
     fill::copy_all(journals, longer);

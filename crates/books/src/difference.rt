@@ -9,6 +9,7 @@ use records::ROWS;
 ghost use mathlib.Core.Path.{_≡_};
 ghost use Prim.Native.Nat.{_+_, _*_, _<_};
 ghost use lib.ListN.{length};
+ghost use Rattle.records.specs.Sizes.{rowBookSize, rowRecordSize};
 ghost use Rattle.records.specs.Bytes.{differ};
 ghost use mathlib.Core.Bool.{true};
 ghost use Rattle.records.specs.JournalBook.{journalForm, journalsOf};
@@ -22,8 +23,8 @@ pub(crate) struct Spot {
 
 // Walks over the row records, and in each over its bytes, up to the first that differs from the picture; to row 1,000 if none does.
 fn first_difference(rows: &[u8], picture: &[u8]) -> Spot
-    requires { ⌜ (length (now rows) ≡ 64000) × (length (now picture) ≡ 64000) ⌝ }
-    ensures { λ r. ⌜ (differ (now (rows .entry)) (now (picture .entry)) ≡ 64 * r .row + r .byte) × (r .byte < 64) ⌝ }
+    requires { ⌜ (length (now rows) ≡ rowBookSize) × (length (now picture) ≡ rowBookSize) ⌝ }
+    ensures { λ r. ⌜ (differ (now (rows .entry)) (now (picture .entry)) ≡ rowRecordSize * r .row + r .byte) × (r .byte < rowRecordSize) ⌝ }
 {
     let mut row = 0;
     let mut byte = 0;
@@ -47,7 +48,7 @@ fn first_difference(rows: &[u8], picture: &[u8]) -> Spot
 
 // What the check says of a row book beside the picture.
 pub(crate) fn compare_rows(rows: &[u8], picture: &[u8]) -> Checked
-    requires { ⌜ (length (now rows) ≡ 64000) × (length (now picture) ≡ 64000) ⌝ }
+    requires { ⌜ (length (now rows) ≡ rowBookSize) × (length (now picture) ≡ rowBookSize) ⌝ }
     ensures { λ r. ⌜ r ≡ compared (now (rows .entry)) (now (picture .entry)) ⌝ }
 {
     let spot = first_difference(rows, picture);
@@ -64,7 +65,7 @@ pub(crate) fn compare_rows(rows: &[u8], picture: &[u8]) -> Checked
 
 // What the check says of a row book whose journals have their form.
 pub(crate) fn check_rows(journals: &[u8], rows: &[u8]) -> Checked
-    requires { ⌜ (journalForm (now journals) ≡ true) × (length (now rows) ≡ 64000) ⌝ }
+    requires { ⌜ (journalForm (now journals) ≡ true) × (length (now rows) ≡ rowBookSize) ⌝ }
     ensures { λ r. ⌜ r ≡ checkRows (journalsOf (now (journals .entry))) (now (rows .entry)) ⌝ }
 {
     let mut drawn = [0u8; ROW_BOOK];

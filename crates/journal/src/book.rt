@@ -8,12 +8,13 @@ ghost use mathlib.Core.Bool.{true};
 ghost use mathlib.Core.List.{[]};
 ghost use Prim.Native.Nat.{_<_};
 ghost use lib.ListN.{length, getD};
+ghost use Rattle.records.specs.Sizes.{journalBookSize};
 ghost use Rattle.words.specs.Words.{count};
 ghost use Rattle.records.specs.JournalBook.{journalForm, journalsOf};
 
 // The number of journals, which is that of the open records before the first that isn't open.
 pub fn open_count(journals: &[u8]) -> usize
-    requires { ⌜ length (now journals) ≡ 4096 ⌝ }
+    requires { ⌜ length (now journals) ≡ journalBookSize ⌝ }
     ensures { λ r. ⌜ r ≡ length (journalsOf (now (journals .entry))) ⌝ }
 {
     let mut k = 0;

@@ -8,6 +8,7 @@ use words::STEP_CODES;
 ghost use mathlib.Core.Path.{_≡_};
 ghost use Prim.Native.Nat.{_<_};
 ghost use lib.ListN.{length};
+ghost use Rattle.records.specs.Sizes.{journalBookSize};
 ghost use Rattle.records.specs.StepBytes.{stepsForm};
 ghost use Rattle.records.specs.JournalBook.{recordForm, wrongRecord, firstWrongRecord};
 
@@ -54,7 +55,7 @@ fn wrong_record(open_before: bool, r: &[u8]) -> bool
 
 // The first record that is wrong, or 16.
 pub fn first_wrong_record(journals: &[u8]) -> usize
-    requires { ⌜ length (now journals) ≡ 4096 ⌝ }
+    requires { ⌜ length (now journals) ≡ journalBookSize ⌝ }
     ensures { λ r. ⌜ r ≡ firstWrongRecord (now (journals .entry)) ⌝ }
 {
     let mut open_before = true;

@@ -17,6 +17,7 @@ ghost use mathlib.Core.List.{[]};
 ghost use Prim.Native.Nat.{_≤_};
 ghost use lib.ListN.{length, take, getD};
 ghost use lib.Dec.{eqb, ltb};
+ghost use Rattle.records.specs.Sizes.{wordRecordSize, longestWord};
 ghost use Rattle.words.specs.Listing.{listOf, Falling};
 ghost use Rattle.records.specs.WordRecord.{wordOf};
 ghost use Rattle.books.specs.Numbers.{first};
@@ -81,7 +82,7 @@ fn wrong_quorum(rows: &[u8], quorum: usize) -> bool
 
 // Whether a word record is of wrong form, which the journal count tells, or longer than the list length.
 fn wrong_word(journals: &[u8], limit: usize, word_record: &[u8]) -> bool
-    requires { ⌜ length (now word_record) ≡ 16 ⌝ }
+    requires { ⌜ length (now word_record) ≡ wordRecordSize ⌝ }
     ensures { λ r. ⌜ r ≡ (eqb (journalCountCall (now (journals .entry)) (now (word_record .entry)) .number) 10 || ltb limit (getD (now (word_record .entry)) 0 0)) ⌝ }
 {
     let counted = books::journal_count(journals, word_record);
@@ -91,7 +92,7 @@ fn wrong_word(journals: &[u8], limit: usize, word_record: &[u8]) -> bool
 
 // The word of a word record, by value.
 fn read_word(word_record: &[u8]) -> Word
-    requires { ⌜ (length (now word_record) ≡ 16) × (getD (now word_record) 0 0 ≤ 15) ⌝ }
+    requires { ⌜ (length (now word_record) ≡ wordRecordSize) × (getD (now word_record) 0 0 ≤ longestWord) ⌝ }
     ensures { λ r. ⌜ (r .len ≡ getD (now (word_record .entry)) 0 0) × (stepsIn r ≡ wordOf (now (word_record .entry))) ⌝ }
 {
     let mut steps = [0u8; LONGEST_WORD];

@@ -9,6 +9,7 @@ ghost use mathlib.Core.List.{_++_};
 ghost use Prim.Native.Nat.{_/_, _≤_};
 ghost use lib.ListN.{length, take, drop, getD};
 ghost use lib.Dec.{ltb};
+ghost use Rattle.records.specs.Sizes.{wordRecordSize, longestWord};
 ghost use Rattle.words.specs.Listing.{listOf, Falling};
 ghost use Rattle.records.specs.WordRecord.{wordRecord};
 ghost use Rattle.list.specs.ListCall.{written};
@@ -39,8 +40,8 @@ fn record_byte(w: Word, i: usize) -> u8
 
 // Writes a word's record into the first 16 bytes.
 fn write_record(out: &mut [u8], w: Word)
-    requires { ⌜ (w .len ≤ 15) × (16 ≤ length (now out)) ⌝ }
-    ensures { λ _. ⌜ now (out .exit) ≡ wordRecord (stepsIn w) ++ drop 16 (now (out .entry)) ⌝ }
+    requires { ⌜ (w .len ≤ longestWord) × (wordRecordSize ≤ length (now out)) ⌝ }
+    ensures { λ _. ⌜ now (out .exit) ≡ wordRecord (stepsIn w) ++ drop wordRecordSize (now (out .entry)) ⌝ }
 {
     let mut i = 0;
     while i < WORD_RECORD {
@@ -58,9 +59,9 @@ pub(crate) fn write_page(
     out: &mut [u8],
 ) -> Page
     requires { ⌜ (limit ≤ 15) × Fit limit (first .word) × Falling (tableOf (now rows)) × (moved first ≡ take 1 (fromThere (moved first) (listOf (tableOf (now rows)) quorum limit))) ⌝ }
-    ensures count { λ r. ⌜ r .written ≡ length (take (length (now (out .entry)) / 16) (fromThere (moved first) (listOf (tableOf (now (rows .entry))) quorum limit))) ⌝ }
+    ensures count { λ r. ⌜ r .written ≡ length (take (length (now (out .entry)) / wordRecordSize) (fromThere (moved first) (listOf (tableOf (now (rows .entry))) quorum limit))) ⌝ }
     ensures more { λ r. ⌜ r .more ≡ ltb (r .written) (length (fromThere (moved first) (listOf (tableOf (now (rows .entry))) quorum limit))) ⌝ }
-    ensures out_after { λ _. ⌜ now (out .exit) ≡ written (take (length (now (out .entry)) / 16) (fromThere (moved first) (listOf (tableOf (now (rows .entry))) quorum limit))) (now (out .entry)) ⌝ }
+    ensures out_after { λ _. ⌜ now (out .exit) ≡ written (take (length (now (out .entry)) / wordRecordSize) (fromThere (moved first) (listOf (tableOf (now (rows .entry))) quorum limit))) (now (out .entry)) ⌝ }
 {
     let room = out.len() / WORD_RECORD;
     let mut at = first;

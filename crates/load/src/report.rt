@@ -9,6 +9,7 @@ use records::WORD_RECORD;
 ghost use mathlib.Core.Path.{_≡_};
 ghost use Prim.Native.Nat.{_+_, _*_, _≤_};
 ghost use lib.ListN.{length};
+ghost use Rattle.records.specs.Sizes.{wordRecordSize};
 
 // The bytes of a page of 1,024 words, and of its text: a line has at most 96 bytes.
 const PAGE: usize = 16384;
@@ -61,7 +62,7 @@ fn put_line(text: &mut [u8], at: usize, line: Line) -> usize
 
 // The line of the word in a word record.
 fn record_line(rows: &[u8], word_record: &[u8]) -> Line
-    requires { ⌜ length (now word_record) ≡ 16 ⌝ }
+    requires { ⌜ length (now word_record) ≡ wordRecordSize ⌝ }
     ensures { λ r. ⌜ r .len ≤ 96 ⌝ }
 {
     let n = word_record[0] as usize;
@@ -75,7 +76,7 @@ fn record_line(rows: &[u8], word_record: &[u8]) -> Line
 
 // The word record i of a page.
 fn record_at(page: &[u8], i: usize) -> [u8; 16]
-    requires { ⌜ 16 * i + 16 ≤ length (now page) ⌝ }
+    requires { ⌜ wordRecordSize * i + wordRecordSize ≤ length (now page) ⌝ }
 {
     let mut found = [0u8; WORD_RECORD];
     let mut c = 0;

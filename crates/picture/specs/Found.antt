@@ -9,6 +9,10 @@ use Rattle.records.specs.Sizes.{mostRows}
 use Rattle.records.specs.Bytes.{records}
 use Rattle.records.specs.RowBook.{placeBytes}
 
+-- the table's bytes: room for one key more than there are rows
+abbrev pub tableSize : ℕ
+tableSize = 16016
+
 -- the states that the first n keys of a table stand for, of k places each
 abbrev pub statesIn : ℕ → ℕ → List ℕ → List (List ℕ)
 statesIn k n t = map (take k) (records 16 n t)

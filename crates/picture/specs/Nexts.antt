@@ -12,6 +12,10 @@ use Rattle.words.specs.Places.{next}
 abbrev pub nextsOfOne : ℕ
 nextsOfOne = 3216
 
+-- and those of 16 journals
+abbrev pub nextsOfAll : ℕ
+nextsOfAll = 51456
+
 -- entry x of the journal j, by the entry one place further on
 unfoldable pub nextEntry : List ℕ → ℕ → ℕ → ℕ
 nextEntry j x further = cond (ltb (x / stepCodes) (length j)) (cond (eqb (getD j (x / stepCodes) 0) (x % stepCodes)) (x / stepCodes + 1) further) lost

@@ -5,25 +5,28 @@ mod row;
 mod state;
 mod states;
 
+use nexts::ALL_NEXTS;
 use nexts::tabulate;
 use records::ROWS;
 use row::draw_rows;
+use states::TABLE;
 use states::find_states;
 ghost use mathlib.Core.Path.{_≡_};
 ghost use mathlib.Core.Bool.{true};
 ghost use lib.ListN.{length};
+ghost use Rattle.records.specs.Sizes.{rowBookSize};
 ghost use Rattle.records.specs.JournalBook.{journalForm, journalsOf};
 ghost use Rattle.picture.specs.Drawn.{rowsFound, drawn};
 
 // Draws the picture into a row book and answers how many live states there are. With more than 1,000 the row book stays as it was.
 pub fn draw(journals: &[u8], rows: &mut [u8]) -> usize
-    requires { ⌜ (journalForm (now journals) ≡ true) × (length (now rows) ≡ 64000) ⌝ }
+    requires { ⌜ (journalForm (now journals) ≡ true) × (length (now rows) ≡ rowBookSize) ⌝ }
     ensures found { λ r. ⌜ r ≡ rowsFound (journalsOf (now (journals .entry))) ⌝ }
     ensures rows_after { λ _. ⌜ now (rows .exit) ≡ drawn (journalsOf (now (journals .entry))) (now (rows .entry)) ⌝ }
 {
-    let mut nexts = [0u8; 51456];
+    let mut nexts = [0u8; ALL_NEXTS];
     tabulate(journals, &mut nexts);
-    let mut table = [0u8; 16016];
+    let mut table = [0u8; TABLE];
     let n = find_states(journals, &nexts, &mut table);
     if ROWS < n {
         return n;

@@ -7,30 +7,37 @@ ghost use Prim.Native.Nat.{ℕ, _+_, _≤_, _<_};
 ghost use lib.ListN.{length, getD};
 ghost use lib.Dec.{ltb};
 ghost use Rattle.records.specs.JournalBook.{journalForm, journalsOf};
-ghost use Rattle.picture.specs.Nexts.{nextEntry, NextsOf, Tabled};
+ghost use Rattle.words.specs.Limits.{stepCodes, longestJournal, lost};
+ghost use Rattle.picture.specs.Nexts.{nextsOfOne, nextsOfAll, nextEntry, NextsOf, Tabled};
 
 // The entries of one journal: 201 places by 16 steps.
 pub const NEXTS: usize = 3216;
 
+// The entries of all journals.
+pub const ALL_NEXTS: usize = 51456;
+
+// The entries of one place, one for each step.
+pub const STEPS: usize = 16;
+
 // The entry one place further on, or lost behind the last.
 fn further_on(entries: &[u8], x: usize) -> u8
-    requires { ⌜ (length (now entries) ≡ 3216) × (x < 3216) ⌝ }
-    ensures { λ r. ⌜ r ≡ cond (ltb (x + 16) 3216) (getD (now (entries .entry)) (x + 16) 0) 255 ⌝ }
+    requires { ⌜ (length (now entries) ≡ nextsOfOne) × (x < nextsOfOne) ⌝ }
+    ensures { λ r. ⌜ r ≡ cond (ltb (x + stepCodes) nextsOfOne) (getD (now (entries .entry)) (x + stepCodes) 0) lost ⌝ }
 {
-    if x + 16 < NEXTS {
-        return entries[x + 16];
+    if x + STEPS < NEXTS {
+        return entries[x + STEPS];
     }
     LOST
 }
 
 // Entry x of a journal, from the entry one place further on.
 fn next_entry(steps: &[u8], x: usize, further: u8) -> u8
-    requires { ⌜ length (now steps) ≤ 200 ⌝ }
+    requires { ⌜ length (now steps) ≤ longestJournal ⌝ }
     ensures { λ r. ⌜ r ≡ nextEntry (now (steps .entry)) x further ⌝ }
 {
-    let p = x / 16;
+    let p = x / STEPS;
     if p < steps.len() {
-        if steps[p] as usize == x % 16 {
+        if steps[p] as usize == x % STEPS {
             return (p + 1) as u8;
         }
         return further;
@@ -40,7 +47,7 @@ fn next_entry(steps: &[u8], x: usize, further: u8) -> u8
 
 // Fills in the entries of one journal, the last place first.
 fn fill_nexts(steps: &[u8], entries: &mut [u8])
-    requires { ⌜ (length (now steps) ≤ 200) × (length (now entries) ≡ 3216) ⌝ }
+    requires { ⌜ (length (now steps) ≤ longestJournal) × (length (now entries) ≡ nextsOfOne) ⌝ }
     ensures { λ _. ⌜ NextsOf (now (steps .entry)) (now (entries .exit)) ⌝ }
 {
     let mut x = NEXTS;
@@ -53,7 +60,7 @@ fn fill_nexts(steps: &[u8], entries: &mut [u8])
 
 // Fills in the table of all journals.
 pub fn tabulate(journals: &[u8], nexts: &mut [u8])
-    requires { ⌜ (journalForm (now journals) ≡ true) × (length (now nexts) ≡ 51456) ⌝ }
+    requires { ⌜ (journalForm (now journals) ≡ true) × (length (now nexts) ≡ nextsOfAll) ⌝ }
     ensures { λ _. ⌜ Tabled (journalsOf (now (journals .entry))) (now (nexts .exit)) ⌝ }
 {
     let k = journal::open_count(journals);

@@ -3,6 +3,8 @@
 use crate::state::held_in;
 use crate::state::is_live;
 use crate::state::step_key;
+use records::ARCS;
+use records::COUNT;
 use records::ROW_RECORD;
 use table::KEY;
 use words::STEP_CODES;
@@ -17,8 +19,10 @@ ghost use Rattle.words.specs.Picture.{picture, steps};
 ghost use Rattle.records.specs.Bytes.{records};
 ghost use Rattle.records.specs.JournalBook.{journalForm, journalsOf};
 ghost use Rattle.records.specs.RowBook.{rowBook};
-ghost use Rattle.picture.specs.Nexts.{Tabled};
-ghost use Rattle.picture.specs.Found.{Found};
+ghost use Rattle.words.specs.Limits.{stepCodes, mostJournals};
+ghost use Rattle.records.specs.Sizes.{rowBookSize, rowRecordSize, mostRows};
+ghost use Rattle.picture.specs.Nexts.{nextsOfAll, Tabled};
+ghost use Rattle.picture.specs.Found.{tableSize, Found};
 ghost use Rattle.picture.specs.RowParts.{bytesOf, keyArc, keyArcs};
 
 pub struct Row {
@@ -29,7 +33,7 @@ pub struct Row {
 
 // The arc of a key under step s: the row number of the state that it leads to, and 0 if that isn't live.
 fn arc_of(nexts: &[u8], k: usize, t: &[u8], n: usize, key: [u8; 16], s: u8) -> u16
-    requires { ⌜ (length (now nexts) ≡ 51456) × (k ≤ 16) × (s < 16) × (16 * n ≤ length (now t)) × (n ≤ 1000) × Ascending (records 16 n (now t)) ⌝ }
+    requires { ⌜ (length (now nexts) ≡ nextsOfAll) × (k ≤ mostJournals) × (s < stepCodes) × (16 * n ≤ length (now t)) × (n ≤ mostRows) × Ascending (records 16 n (now t)) ⌝ }
     ensures { λ r. ⌜ r ≡ keyArc (now (nexts .entry)) k (records 16 n (now (t .entry))) key s ⌝ }
 {
     let to = step_key(nexts, k, key, s);
@@ -41,7 +45,7 @@ fn arc_of(nexts: &[u8], k: usize, t: &[u8], n: usize, key: [u8; 16], s: u8) -> u
 
 // The arcs of a key, by step.
 fn arcs_of(nexts: &[u8], k: usize, t: &[u8], n: usize, key: [u8; 16]) -> [u16; 16]
-    requires { ⌜ (length (now nexts) ≡ 51456) × (k ≤ 16) × (16 * n ≤ length (now t)) × (n ≤ 1000) × Ascending (records 16 n (now t)) ⌝ }
+    requires { ⌜ (length (now nexts) ≡ nextsOfAll) × (k ≤ mostJournals) × (16 * n ≤ length (now t)) × (n ≤ mostRows) × Ascending (records 16 n (now t)) ⌝ }
     ensures { λ r. ⌜ r ≡ keyArcs (now (nexts .entry)) k (records 16 n (now (t .entry))) key steps ⌝ }
 {
     let mut arcs = [0u16; 16];
@@ -55,7 +59,7 @@ fn arcs_of(nexts: &[u8], k: usize, t: &[u8], n: usize, key: [u8; 16]) -> [u16; 1
 
 // Row i, read into arrays by value.
 fn row_at(nexts: &[u8], k: usize, t: &[u8], n: usize, i: usize) -> Row
-    requires { ⌜ (length (now nexts) ≡ 51456) × (k ≤ 16) × (16 * n ≤ length (now t)) × (n ≤ 1000) × Ascending (records 16 n (now t)) × (i < n) ⌝ }
+    requires { ⌜ (length (now nexts) ≡ nextsOfAll) × (k ≤ mostJournals) × (16 * n ≤ length (now t)) × (n ≤ mostRows) × Ascending (records 16 n (now t)) × (i < n) ⌝ }
     ensures { λ r. ⌜ (r .places ≡ take 16 (drop (16 * i) (now (t .entry)))) × (r .arcs ≡ keyArcs (now (nexts .entry)) k (records 16 n (now (t .entry))) (take 16 (drop (16 * i) (now (t .entry)))) steps) × (r .count ≡ held (take k (take 16 (drop (16 * i) (now (t .entry)))))) ⌝ }
 {
     let places = table::key_at(t, KEY * i);
@@ -70,22 +74,22 @@ fn row_at(nexts: &[u8], k: usize, t: &[u8], n: usize, i: usize) -> Row
 
 // One byte of a row's record.
 fn row_byte(row: Row, c: usize) -> u8
-    requires { ⌜ c < 64 ⌝ }
+    requires { ⌜ c < rowRecordSize ⌝ }
     ensures { λ x. ⌜ x ≡ getD (bytesOf (row .places) (row .arcs) (row .count)) c 0 ⌝ }
 {
-    if c < 16 {
+    if c < ARCS {
         let places = row.places;
         return places[c];
     }
-    if c < 48 {
+    if c < COUNT {
         let arcs = row.arcs;
-        let arc = arcs[(c - 16) / 2];
+        let arc = arcs[(c - ARCS) / 2];
         if c % 2 == 0 {
             return (arc % 256) as u8;
         }
         return (arc / 256 % 256) as u8;
     }
-    if c == 48 {
+    if c == COUNT {
         return row.count;
     }
     0
@@ -93,8 +97,8 @@ fn row_byte(row: Row, c: usize) -> u8
 
 // Writes a row's record from a byte on.
 fn write_row(rows: &mut [u8], at: usize, row: Row)
-    requires { ⌜ at + 64 ≤ length (now rows) ⌝ }
-    ensures { λ _. ⌜ now (rows .exit) ≡ take at (now (rows .entry)) ++ (bytesOf (row .places) (row .arcs) (row .count) ++ drop (at + 64) (now (rows .entry))) ⌝ }
+    requires { ⌜ at + rowRecordSize ≤ length (now rows) ⌝ }
+    ensures { λ _. ⌜ now (rows .exit) ≡ take at (now (rows .entry)) ++ (bytesOf (row .places) (row .arcs) (row .count) ++ drop (at + rowRecordSize) (now (rows .entry))) ⌝ }
 {
     let mut c = 0;
     while c < ROW_RECORD {
@@ -105,7 +109,7 @@ fn write_row(rows: &mut [u8], at: usize, row: Row)
 
 // Draws the rows of the n states, and zeros behind them.
 pub fn draw_rows(journals: &[u8], nexts: &[u8], t: &[u8], n: usize, rows: &mut [u8])
-    requires { ⌜ (journalForm (now journals) ≡ true) × (length (now nexts) ≡ 51456) × Tabled (journalsOf (now journals)) (now nexts) × (length (now t) ≡ 16016) × (n ≤ 1000) × Found (journalsOf (now journals)) n (now t) × (length (now rows) ≡ 64000) ⌝ }
+    requires { ⌜ (journalForm (now journals) ≡ true) × (length (now nexts) ≡ nextsOfAll) × Tabled (journalsOf (now journals)) (now nexts) × (length (now t) ≡ tableSize) × (n ≤ mostRows) × Found (journalsOf (now journals)) n (now t) × (length (now rows) ≡ rowBookSize) ⌝ }
     ensures { λ _. ⌜ now (rows .exit) ≡ rowBook (journalsOf (now (journals .entry))) ⌝ }
 {
     fill::zero_all(rows);

@@ -1,28 +1,32 @@
 // One state as a key of sixteen places, of which the first k count: stepped to a new array, live, held.
 
 use crate::nexts::NEXTS;
+use crate::nexts::STEPS;
+use words::LONGEST_JOURNAL;
 use words::LOST;
 ghost use mathlib.Core.Path.{_≡_};
 ghost use Prim.Native.Nat.{_≤_, _<_};
 ghost use lib.ListN.{length, take};
 ghost use Rattle.words.specs.Places.{live, held};
+ghost use Rattle.words.specs.Limits.{stepCodes, mostJournals};
+ghost use Rattle.picture.specs.Nexts.{nextsOfAll};
 ghost use Rattle.picture.specs.Stepped.{nextAt, steppedKey};
 
 // The place that the step s leads to from the place p in journal i.
 fn next_at(nexts: &[u8], i: usize, p: u8, s: u8) -> u8
-    requires { ⌜ (length (now nexts) ≡ 51456) × (i < 16) × (s < 16) ⌝ }
+    requires { ⌜ (length (now nexts) ≡ nextsOfAll) × (i < mostJournals) × (s < stepCodes) ⌝ }
     ensures { λ r. ⌜ r ≡ nextAt (now (nexts .entry)) i p s ⌝ }
 {
     let at = p as usize;
-    if 200 < at {
+    if LONGEST_JOURNAL < at {
         return LOST;
     }
-    nexts[NEXTS * i + (16 * at + s as usize)]
+    nexts[NEXTS * i + (STEPS * at + s as usize)]
 }
 
 // The places that the step s leads to, as a new array; 0 for a journal that isn't open.
 pub fn step_key(nexts: &[u8], k: usize, key: [u8; 16], s: u8) -> [u8; 16]
-    requires { ⌜ (length (now nexts) ≡ 51456) × (k ≤ 16) × (s < 16) ⌝ }
+    requires { ⌜ (length (now nexts) ≡ nextsOfAll) × (k ≤ mostJournals) × (s < stepCodes) ⌝ }
     ensures { λ r. ⌜ r ≡ steppedKey (now (nexts .entry)) k key s ⌝ }
 {
     let mut to = [0u8; 16];
@@ -36,7 +40,7 @@ pub fn step_key(nexts: &[u8], k: usize, key: [u8; 16], s: u8) -> [u8; 16]
 
 // Whether one of the first k places isn't lost.
 pub fn is_live(k: usize, key: [u8; 16]) -> bool
-    requires { ⌜ k ≤ 16 ⌝ }
+    requires { ⌜ k ≤ mostJournals ⌝ }
     ensures { λ r. ⌜ r ≡ live (take k key) ⌝ }
 {
     let mut i = 0;
@@ -51,7 +55,7 @@ pub fn is_live(k: usize, key: [u8; 16]) -> bool
 
 // How many of the first k places aren't lost.
 pub fn held_in(k: usize, key: [u8; 16]) -> u8
-    requires { ⌜ k ≤ 16 ⌝ }
+    requires { ⌜ k ≤ mostJournals ⌝ }
     ensures { λ r. ⌜ r ≡ held (take k key) ⌝ }
 {
     let mut n: u8 = 0;

@@ -13,13 +13,18 @@ ghost use lib.ListN.{length};
 ghost use Rattle.words.specs.Order.{Ascending};
 ghost use Rattle.records.specs.Bytes.{records};
 ghost use Rattle.records.specs.JournalBook.{journalForm, journalsOf};
-ghost use Rattle.picture.specs.Nexts.{Tabled};
+ghost use Rattle.words.specs.Limits.{stepCodes, mostJournals};
+ghost use Rattle.records.specs.Sizes.{mostRows};
+ghost use Rattle.picture.specs.Nexts.{nextsOfAll, Tabled};
 ghost use Rattle.picture.specs.Stepped.{steppedKey, withKey};
-ghost use Rattle.picture.specs.Found.{Sweeping, Swept, Found};
+ghost use Rattle.picture.specs.Found.{tableSize, Sweeping, Swept, Found};
+
+// The bytes of the table: room for one key more than there are rows.
+pub const TABLE: usize = 16016;
 
 // Puts the state that the step s leads to from a key into the table, if it is live. Returns how many keys there are then.
 fn add_step(nexts: &[u8], k: usize, t: &mut [u8], n: usize, key: [u8; 16], s: u8) -> usize
-    requires { ⌜ (length (now nexts) ≡ 51456) × (k ≤ 16) × (s < 16) × (16 * n + 16 ≤ length (now t)) × (n ≤ 1000) × Ascending (records 16 n (now t)) ⌝ }
+    requires { ⌜ (length (now nexts) ≡ nextsOfAll) × (k ≤ mostJournals) × (s < stepCodes) × (16 * n + 16 ≤ length (now t)) × (n ≤ mostRows) × Ascending (records 16 n (now t)) ⌝ }
     ensures after { λ r. ⌜ records 16 r (now (t .exit)) ≡ withKey k (steppedKey (now (nexts .entry)) k key s) (records 16 n (now (t .entry))) ⌝ }
     ensures many { λ r. ⌜ r ≡ length (withKey k (steppedKey (now (nexts .entry)) k key s) (records 16 n (now (t .entry)))) ⌝ }
 {
@@ -32,7 +37,7 @@ fn add_step(nexts: &[u8], k: usize, t: &mut [u8], n: usize, key: [u8; 16], s: u8
 
 // Puts in all live states that lead on from row i. Returns how many keys there are then, 1,001 if they are too many.
 fn grow_row(journals: &[u8], nexts: &[u8], t: &mut [u8], n: usize, i: usize) -> usize
-    requires { ⌜ (journalForm (now journals) ≡ true) × (length (now nexts) ≡ 51456) × Tabled (journalsOf (now journals)) (now nexts) × (length (now t) ≡ 16016) × (i < n) × Sweeping (journalsOf (now journals)) i 0 n (now t) ⌝ }
+    requires { ⌜ (journalForm (now journals) ≡ true) × (length (now nexts) ≡ nextsOfAll) × Tabled (journalsOf (now journals)) (now nexts) × (length (now t) ≡ tableSize) × (i < n) × Sweeping (journalsOf (now journals)) i 0 n (now t) ⌝ }
     ensures { λ r. ⌜ Swept (journalsOf (now (journals .entry))) (i + 1) r (now (t .exit)) ⌝ }
 {
     let k = journal::open_count(journals);
@@ -51,7 +56,7 @@ fn grow_row(journals: &[u8], nexts: &[u8], t: &mut [u8], n: usize, i: usize) -> 
 
 // Finds all live states and puts their keys into the table, ascending. Returns how many there are, 1,001 if they are too many.
 pub fn find_states(journals: &[u8], nexts: &[u8], t: &mut [u8]) -> usize
-    requires { ⌜ (journalForm (now journals) ≡ true) × (length (now nexts) ≡ 51456) × Tabled (journalsOf (now journals)) (now nexts) × (length (now t) ≡ 16016) ⌝ }
+    requires { ⌜ (journalForm (now journals) ≡ true) × (length (now nexts) ≡ nextsOfAll) × Tabled (journalsOf (now journals)) (now nexts) × (length (now t) ≡ tableSize) ⌝ }
     ensures { λ r. ⌜ Found (journalsOf (now (journals .entry))) r (now (t .exit)) ⌝ }
 {
     if journal::open_count(journals) == 0 {

@@ -6,12 +6,17 @@ pub const JOURNAL_BOOK: usize = 4096;
 
 pub const JOURNAL_RECORD: usize = 256;
 
-// Row book: its bytes, those of one of its records, and how many records it has.
+// Row book: its bytes, how many records it has, and the bytes of one of them.
 pub const ROW_BOOK: usize = 64000;
+
+pub const ROWS: usize = 1000;
 
 pub const ROW_RECORD: usize = 64;
 
-pub const ROWS: usize = 1000;
+// In a row record: the first byte of its arcs, and the byte of its count.
+pub const ARCS: usize = 16;
+
+pub const COUNT: usize = 48;
 
 // Word record: its bytes, and the most steps of its word.
 pub const WORD_RECORD: usize = 16;

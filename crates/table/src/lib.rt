@@ -5,6 +5,7 @@ ghost use mathlib.Core.List.{_∷_, _++_};
 ghost use Prim.Native.Nat.{_+_, _*_, _≤_};
 ghost use lib.ListN.{length, take, drop};
 ghost use lib.Seq.{paste};
+ghost use Rattle.records.specs.Sizes.{mostRows};
 ghost use Rattle.words.specs.Order.{Ascending};
 ghost use Rattle.words.specs.Picture.{insert};
 ghost use Rattle.records.specs.Bytes.{records};
@@ -98,7 +99,7 @@ pub fn put(t: &mut [u8], at: usize, key: [u8; 16])
 
 // Puts a key behind the first p of the n keys.
 fn open_at(t: &mut [u8], n: usize, p: usize, key: [u8; 16])
-    requires { ⌜ (16 * n + 16 ≤ length (now t)) × (n ≤ 1000) × (p ≤ n) ⌝ }
+    requires { ⌜ (16 * n + 16 ≤ length (now t)) × (n ≤ mostRows) × (p ≤ n) ⌝ }
     ensures { λ _. ⌜ records 16 (n + 1) (now (t .exit)) ≡ take p (records 16 n (now (t .entry))) ++ key ∷ drop p (records 16 n (now (t .entry))) ⌝ }
 {
     shift(t, KEY * p, KEY * n);
@@ -107,7 +108,7 @@ fn open_at(t: &mut [u8], n: usize, p: usize, key: [u8; 16])
 
 // Puts a key among the n keys, in order, unless it is there. Returns how many keys there are then.
 pub fn insert(t: &mut [u8], n: usize, key: [u8; 16]) -> usize
-    requires { ⌜ (16 * n + 16 ≤ length (now t)) × (n ≤ 1000) × Ascending (records 16 n (now t)) ⌝ }
+    requires { ⌜ (16 * n + 16 ≤ length (now t)) × (n ≤ mostRows) × Ascending (records 16 n (now t)) ⌝ }
     ensures after { λ r. ⌜ records 16 r (now (t .exit)) ≡ insert key (records 16 n (now (t .entry))) ⌝ }
     ensures many { λ r. ⌜ r ≡ length (insert key (records 16 n (now (t .entry)))) ⌝ }
 {

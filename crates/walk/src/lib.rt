@@ -10,15 +10,11 @@ ghost use Rattle.records.specs.Bytes.{allBelow};
 ghost use Rattle.records.specs.RowBook.{countAt, arcAt};
 ghost use Rattle.walk.specs.Walk.{badArc, walkFrom, walk};
 ghost use Rattle.walk.specs.Walked.{ended};
+use records::ARCS;
+use records::COUNT;
 use records::ROW_RECORD;
 use records::ROWS;
 use words::JOURNALS;
-
-// In a row record: the first byte of its arcs.
-const ARCS: usize = 16;
-
-// In a row record: the byte of its count.
-const COUNT: usize = 48;
 
 // Where a walk ends: in a row, in no row, or in damage.
 pub enum Walked {
