@@ -1,9 +1,10 @@
 #!/usr/bin/env python3
-"""Shows that the trials can fail: breaks tests/model.py in many ways, those that document 01 has seen go wrong among them,
-and prints for each the first line of the trial that tells. Ends with an error where none does.
+"""Shows that the trials and the program's cases can fail: breaks tests/model.py and tests/program_model.py in many ways,
+those that document 01 has seen go wrong among them, and prints for each the first line of the trial, or the case, that
+tells. Ends with an error where none does.
 
-    python3 tests/bites.py               breaks the books and the list
-    python3 tests/bites.py trial_list    breaks the list only; the same with trial_books
+    python3 tests/bites.py               breaks the books, the list and the program
+    python3 tests/bites.py trial_list    breaks the list only; the same with trial_books and cases
 """
 import os
 import struct
@@ -11,6 +12,7 @@ import sys
 import types
 
 import make_books_trial
+import make_cases
 import make_list_trial
 import trial
 
@@ -121,18 +123,55 @@ WRONG_LISTS = [
     ("a refusal clears the output", "        return 8, 0, False\n", "        out[:] = bytes(len(out))\n        return 8, 0, False\n"),
 ]
 
+IS_12 = "    if len(ask) != 2:\n        return 12, 0, 0\n"
+ASK_9 = "    if length > model.LONGEST_WORD:\n        return 9, 0, 0\n"
+ASK_8 = "    if quorum < 1 or quorum > k:\n        return 8, 0, 0\n"
+
+WRONG_PROGRAMS = [
+    ("step 16 is a step", "model.STEPS <= step < ONLY_OPENS", "model.STEPS < step < ONLY_OPENS"),
+    ("step 254 is not broken", "step < ONLY_OPENS or", "step < ONLY_OPENS - 1 or"),
+    ("255 is taken for the journal already open", " or step == ONLY_OPENS and number == k - 1", ""),
+    ("any earlier journal is appended to", "number not in (k - 1, k)", "number > k"),
+    ("number 16 is always broken", "number not in (k - 1, k)", "number not in (k - 1, k) or number == 16"),
+    ("7 before 11", "    if broken(k, entry):\n", "    if k == 16 and entry[0] == 16:\n        return 7\n    if broken(k, entry):\n"),
+    ("an entry that opens and appends only opens", "model.open_journal(*opened) or model.append(*opened, step)", "model.open_journal(*opened)"),
+    ("records count from 1", "return books, at // 2, refused", "return books, at // 2 + 1, refused"),
+    ("records count bytes", "return books, at // 2, refused", "return books, at, refused"),
+    ("a lone last byte is passed over", "range(len(begun), len(entries), 2)", "range(len(begun), len(entries) - 1, 2)"),
+    ("a refused entry is passed over", "        if refused:\n            keep(", "        if refused == 6:\n            keep("),
+    ("no ask is length 9", "EMPTY_OR_MISSING_LENGTH = 255, 8", "EMPTY_OR_MISSING_LENGTH = 255, 9"),
+    ("no ask is quorum 1", "bytes([k, EMPTY_OR_MISSING_LENGTH])", "bytes([1, EMPTY_OR_MISSING_LENGTH])"),
+    ("an empty ask file is 12", "    if not ask:\n", "    if ask is None:\n"),
+    ("an ask of 3 bytes is cut", IS_12, "    ask = ask[:2]\n" + IS_12),
+    ("an ask of 1 byte is a quorum", IS_12, "    ask = ask + b\"\\3\" if len(ask) == 1 else ask\n" + IS_12),
+    ("8 before 9", ASK_9 + ASK_8, ASK_8 + ASK_9),
+    ("length 16 is taken", "length > model.LONGEST_WORD", "length > model.LONGEST_WORD + 1"),
+    ("length 15 is refused", "length > model.LONGEST_WORD", "length >= model.LONGEST_WORD"),
+    ("quorum k + 1 is taken", "quorum > k:", "quorum > k + 1:"),
+    ("quorum k is refused", "quorum > k:", "quorum >= k:"),
+    ("quorum 0 stands for 1", "    quorum, length = ask\n", "    quorum, length = max(ask[0], 1), ask[1]\n"),
+    ("a refused ask before a refused entry", "    if refused:\n        return line(\"refused\", refused, \"record\"",
+     "    if refused and not asked(len(model.journals_of(books[0])), ask)[0]:\n        return line(\"refused\", refused, \"record\""),
+    ("the count before the length", "line(len(word), model.count(journals, word), *word)", "line(model.count(journals, word), len(word), *word)"),
+    ("the count is left out", "line(len(word), model.count(journals, word), *word)", "line(len(word), *word)"),
+    ("the last line counts the words but one", "line(\"end\", len(words))", "line(\"end\", len(words) - 1)"),
+    ("the empty word is not counted as a row", "len(model.rows_of(books[1]))", "len(model.rows_of(books[1])) - 1"),
+    ("empty journals are no texts", "line(\"texts\", len(journals)", "line(\"texts\", len([j for j in journals if j])"),
+    ("lines end like a typewriter's", "map(str, parts)) + \"\\n\"", "map(str, parts)) + \"\\r\\n\""),
+]
+
 TRIALS = (make_books_trial.CRATE, trial.Trial, WRONG_BOOKS), (make_list_trial.CRATE, make_list_trial.Trial, WRONG_LISTS)
 
 
-def broken(old, new):
-    """The model with one text in the place of another."""
-    with open(os.path.join(os.path.dirname(os.path.abspath(__file__)), "model.py")) as file:
+def broken(name, old, new):
+    """A model with one text in the place of another."""
+    with open(os.path.join(os.path.dirname(os.path.abspath(__file__)), name)) as file:
         text = file.read()
     if text.count(old) != 1:
-        sys.exit(f"the model has {text.count(old)} times: {old}")
-    books = types.ModuleType("broken")
-    exec(text.replace(old, new), books.__dict__)
-    return books
+        sys.exit(f"{name} has {text.count(old)} times: {old}")
+    module = types.ModuleType("broken")
+    exec(text.replace(old, new), module.__dict__)
+    return module
 
 
 def lines(script, state):
@@ -158,7 +197,7 @@ def bite(crate, state_of, wrong):
     with open(trial.crate_file(crate, "stdout")) as file:
         right = file.readlines()
     for name, old, new in wrong:
-        printed = lines(script, state_of(broken(old, new)))
+        printed = lines(script, state_of(broken("model.py", old, new)))
         told = next(((n, a, b) for n, (a, b) in enumerate(zip(right, printed), 1) if a != b), None)
         if told is None:
             sys.exit(f"{name}: no line tells")
@@ -166,13 +205,36 @@ def bite(crate, state_of, wrong):
     print(f"{crate}: {len(wrong)} wrong models, and each is found")
 
 
+def answer(program, stdin, ask):
+    try:
+        return program.printed(stdin, ask)
+    except Exception as error:
+        return f"broke off: {error!r}".encode()
+
+
+def bite_cases():
+    """Every wrong program through the stored cases, the short ones first."""
+    files = make_cases.stored()
+    names = sorted((name for name in files if os.path.basename(name) == "stdin"), key=lambda name: (len(files[name]), name))
+    for what, old, new in WRONG_PROGRAMS:
+        program = broken("program_model.py", old, new)
+        told = next((name for name in map(os.path.dirname, names)
+                     if answer(program, files[f"{name}/stdin"], files.get(f"{name}/ask.bin")) != files[f"{name}/stdout"]), None)
+        if told is None:
+            sys.exit(f"{what}: no case tells")
+        print(f"{what}: the case {told} tells", flush=True)
+    print(f"cases: {len(WRONG_PROGRAMS)} wrong programs, and each is found")
+
+
 def main(names):
     for crate, state_of, wrong in TRIALS:
         if names in ([], [crate]):
             bite(crate, state_of, wrong)
+    if names in ([], ["cases"]):
+        bite_cases()
 
 
 if __name__ == "__main__":
-    if sys.argv[1:] not in ([], *([crate] for crate, _, _ in TRIALS)):
+    if sys.argv[1:] not in ([], ["cases"], *([crate] for crate, _, _ in TRIALS)):
         sys.exit(__doc__)
     main(sys.argv[1:])
