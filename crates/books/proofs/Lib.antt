@@ -13,5 +13,4 @@ pub mod CheckCases
 pub mod Checks
 pub mod OpenCases
 pub mod AppendCases
-pub mod Putting
 pub mod Runs

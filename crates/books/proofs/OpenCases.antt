@@ -1,10 +1,10 @@
 -- Open by its cases: what a refusal leaves, and what stands when there is none. Assumes nothing.
-use Prim.Native.Nat.{ℕ, _*_, _≤_, _<_}
+use Prim.Native.Nat.{ℕ, _≤_, _<_}
 use native.Mathlib.Omega.{arith}
 use mathlib.Core.Path.{_≡_, sym, ap, _∙_}
 use mathlib.Core.Bool.{true, not}
 use mathlib.Core.List.{List, [], _∷_}
-use lib.ListN.{length, set}
+use lib.ListN.{length}
 use lib.Dec.{leb}
 use borrow.Author.Tests.{leb-false, le-leb, lt-leb, not-false}
 use Rattle.words.specs.Journals.{opened}
@@ -16,20 +16,19 @@ use Rattle.words.proofs.Place.{short}
 use Rattle.records.specs.JournalBook.{journalForm, journalsOf, journalBook}
 use Rattle.records.specs.RowBook.{rowBook}
 use Rattle.records.specs.Sound.{rightSizes, sound, BooksOf}
-use Rattle.records.proofs.Form.{book-form, journals-back}
 use Rattle.records.proofs.Sound.{sound-books}
-use Rattle.records.proofs.Writing.{open-bytes}
 use Rattle.books.specs.Numbers.{Refusal, first}
 use Rattle.books.specs.Clear.{after}
 use Rattle.books.specs.Open.{openRefusals, openCall}
 use Rattle.books.specs.Check.{checkCall}
-use Rattle.books.proofs.Checks.{seen-refused, seen-sound}
+use Rattle.books.proofs.Checks.{parts-of, seen-refused, seen-sound}
 use Rattle.books.proofs.Refusals.{pass, refused}
 
 module _ (jb rb : List ℕ) where
   -- the books hold journals, and there is room for one more
   pub record CanOpen : Type 0 where
     pub books : BooksOf (journalsOf jb) jb rb
+    pub form : journalForm jb ≡ true
     pub few : length (journalsOf jb) < 16
     pub journals : AreJournals (opened (journalsOf jb))
     pub fits : length (picture (opened (journalsOf jb))) ≤ 1000
@@ -41,25 +40,16 @@ module _ (jb rb : List ℕ) where
       let p1 = pass (not (rightSizes jb rb)) 0 _ e in
       let p2 = pass (not (sound jb rb)) 1 _ (p1 .1) in
       let p3 = pass (leb 16 (length js)) 6 _ (p2 .1) in
-      let b = sound-books jb rb (not-false _ (p2 .0)) in
+      let t = not-false (sound jb rb) (p2 .0) in
+      let b = sound-books jb rb t in
       let k : length js < 16 = leb-false 16 (length js) (p3 .0) in
       record {
         books = b;
+        form = parts-of jb rb t .0;
         few = k;
         journals = opened-journals js (b .journals) k;
         fits = omega (arith, never-more js (short js (b .journals .each)), b .fits);
       }
-
-  module _ (c : CanOpen) where
-    -- the journal book with the byte that says open
-    pub opened-book : set jb (256 * length (journalsOf jb)) 1 ≡ journalBook (opened (journalsOf jb))
-    opened-book = ap (λ (b : List ℕ). set b (256 * length (journalsOf jb)) 1) (c .books .journal-book) ∙ open-bytes (journalsOf jb) (c .books .journals) (c .few)
-
-    pub opened-form : journalForm (set jb (256 * length (journalsOf jb)) 1) ≡ true
-    opened-form = ap journalForm opened-book ∙ book-form (opened (journalsOf jb)) (c .journals)
-
-    pub opened-back : journalsOf (set jb (256 * length (journalsOf jb)) 1) ≡ opened (journalsOf jb)
-    opened-back = ap journalsOf opened-book ∙ journals-back (opened (journalsOf jb)) (c .journals)
 
   -- the number by what the code asks: what the check says, and how many journals there are
   full : Refusal

@@ -2,7 +2,7 @@
 // definition of specs/, and holds for every input.
 mod answer;
 mod appending;
-mod difference;
+mod checking;
 pub mod number;
 mod opening;
 mod size;
@@ -16,8 +16,7 @@ ghost use Rattle.books.specs.JournalCount.{journalCountCall};
 ghost use Rattle.books.specs.Check.{checkCall};
 ghost use Rattle.books.specs.RowRecord.{rowRecordCall, rowRecordNumberCall};
 use appending::decide_append;
-use appending::with_step;
-use difference::check_rows;
+use checking::check_rows;
 use number::DAMAGED;
 use number::DONE;
 use number::ROWS_FULL;
@@ -87,7 +86,7 @@ pub fn append(journals: &mut [u8], rows: &mut [u8], step: u8) -> u8
         return number;
     }
     let mut longer = [0u8; JOURNAL_BOOK];
-    with_step(journals, &mut longer, step);
+    journal::with_step(journals, &mut longer, step);
     if ROWS < picture::draw(&longer, rows) {
         return ROWS_FULL;
     }

@@ -3,7 +3,6 @@
 use crate::check;
 use crate::number::DONE;
 use crate::number::JOURNALS_FULL;
-use records::JOURNAL_RECORD;
 use words::JOURNALS;
 ghost use mathlib.Core.Path.{_≡_};
 ghost use Rattle.words.specs.Journals.{opened};
@@ -33,7 +32,6 @@ pub(crate) fn write_open(journals: &mut [u8], rows: &mut [u8])
     ensures journals_after { λ _. ⌜ now (journals .exit) ≡ journalBook (opened (journalsOf (now (journals .entry)))) ⌝ }
     ensures rows_after { λ _. ⌜ now (rows .exit) ≡ rowBook (opened (journalsOf (now (journals .entry)))) ⌝ }
 {
-    let k = journal::open_count(journals);
-    journals[JOURNAL_RECORD * k] = 1;
+    journal::open_next(journals);
     picture::draw(journals, rows);
 }

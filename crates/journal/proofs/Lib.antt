@@ -2,3 +2,4 @@ pub mod Parts
 pub mod Index
 pub mod Records
 pub mod Journals
+pub mod Putting

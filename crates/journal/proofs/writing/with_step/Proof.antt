@@ -1,10 +1,10 @@
--- `books::appending::with_step` meets its contract: a copy of the book, with the step put at its last journal's end. Assumes nothing.
+-- `journal::writing::with_step` meets its contract: a copy of the book, with the step put at its last journal's end. Assumes nothing.
 use mathlib.Core.Path.{sym, _∙_}
 use Rattle.journal.proofs.Journals.{form-size}
-use Rattle.books.proofs.Putting.{last-room, last-put}
+use Rattle.journal.proofs.Putting.{last-room, last-put}
 use borrow.Author.Needs.{needs}
-use Rattle.books.proofs.appending.with_step.Statement.{statement}
-use Rattle.books.proofs.appending.with_step.Tie as tie
+use Rattle.journal.proofs.writing.with_step.Statement.{statement}
+use Rattle.journal.proofs.writing.with_step.Tie as tie
 
 copy-all-requires : tie.Need-copy-all-requires
 copy-all-requires c κs = form-size (c .before .before .before .args .journals .now) (c .before .before .before .pre .0) ∙ sym (c .before .before .before .pre .3)

@@ -1,14 +1,21 @@
--- A step put at the end of a journal that has room for it: where the bytes stand, and the book after it. Assumes nothing.
+-- The next journal opened, and a step put at the end of a journal that has room for it: where the bytes stand, and the book
+-- after it. Assumes nothing.
 use Prim.Native.Nat.{ℕ, _+_, _-_, _*_, _<_}
 use native.Mathlib.Omega.{arith}
 use mathlib.Core.Path.{_≡_, sym, ap, _∙_}
 use mathlib.Core.Bool.{true}
 use mathlib.Core.List.{List}
 use lib.ListN.{length, getD, set}
-use Rattle.words.specs.Journals.{appendedAt, appended, lastOf, stepsAt}
+use Rattle.words.specs.Journals.{opened, appendedAt, appended, lastOf, stepsAt}
 use Rattle.records.specs.JournalBook.{journalForm, journalsOf, journalBook}
 use Rattle.records.proofs.Form.{form-book, book-length}
-use Rattle.records.proofs.Writing.{append-bytes, length-byte}
+use Rattle.records.proofs.Writing.{open-bytes, append-bytes, length-byte}
+
+-- the byte behind the open records says open
+pub opened-book : (b : List ℕ) → journalForm b ≡ true → length (journalsOf b) < 16 → set b (256 * length (journalsOf b)) 1 ≡ journalBook (opened (journalsOf b))
+opened-book b t h =
+    let f = form-book b t in
+    ap (λ (c : List ℕ). set c (256 * length (journalsOf b)) 1) (f .1) ∙ open-bytes (journalsOf b) (f .0) h
 
 -- the book has its size, the journal is one of sixteen, and its length byte leaves room
 pub record Room (b : List ℕ) (i : ℕ) : Type 0 where

@@ -1,11 +1,11 @@
--- `books::difference::compare_rows` meets its contract: the spot that the walk came to says where the books differ, or that they don't.
+-- `books::checking::compare_rows` meets its contract: the spot that the walk came to says where the books differ, or that they don't.
 -- Assumes nothing.
 use borrow.Author.Needs.{needs}
 use native.Mathlib.Omega.{arith}
 use mathlib.Core.Path.{sym, _∙_}
 use Rattle.books.proofs.Differences.{compared-differs, compared-same}
-use Rattle.books.proofs.difference.compare_rows.Statement.{statement}
-use Rattle.books.proofs.difference.compare_rows.Tie as tie
+use Rattle.books.proofs.checking.compare_rows.Statement.{statement}
+use Rattle.books.proofs.checking.compare_rows.Tie as tie
 
 first-difference-requires : tie.Need-first-difference-requires
 first-difference-requires c κs = search needs

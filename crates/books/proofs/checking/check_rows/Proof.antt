@@ -1,4 +1,4 @@
--- `books::difference::check_rows` meets its contract: the picture is drawn beside the row book, and the two are compared if it fits.
+-- `books::checking::check_rows` meets its contract: the picture is drawn beside the row book, and the two are compared if it fits.
 -- Assumes nothing.
 use mathlib.Core.Path.{sym, ap, _∙_}
 use Rattle.records.specs.JournalBook.{journalsOf}
@@ -7,8 +7,8 @@ use Rattle.books.proofs.CheckCases.{rows-many, rows-compared}
 use Rattle.picture.proofs.Drawn.{found-many, found-few, drawn-few}
 use borrow.Author.Needs.{needs}
 use native.Mathlib.Omega.{arith}
-use Rattle.books.proofs.difference.check_rows.Statement.{statement}
-use Rattle.books.proofs.difference.check_rows.Tie as tie
+use Rattle.books.proofs.checking.check_rows.Statement.{statement}
+use Rattle.books.proofs.checking.check_rows.Tie as tie
 
 slice-aggregate-draw : tie.Need-slice-aggregate-draw
 slice-aggregate-draw c = search needs

@@ -1,10 +1,10 @@
--- `books::appending::put_step` meets its contract: the length byte says where the step goes, and there is room. Assumes nothing.
+-- `journal::writing::put_step` meets its contract: the length byte says where the step goes, and there is room. Assumes nothing.
 use lib.ListN.{length-set}
-use Rattle.books.proofs.Putting.{room-at, put-book}
+use Rattle.journal.proofs.Putting.{room-at, put-book}
 use borrow.Author.Needs.{needs}
 use native.Mathlib.Omega.{arith}
-use Rattle.books.proofs.appending.put_step.Statement.{statement}
-use Rattle.books.proofs.appending.put_step.Tie as tie
+use Rattle.journal.proofs.writing.put_step.Statement.{statement}
+use Rattle.journal.proofs.writing.put_step.Tie as tie
 
 mul-at : tie.Need-mul-at
 mul-at c = omega (arith, room-at (c .args .journals .now) (c .pre .0) (c .args .i) (c .pre .1) (c .pre .2))

@@ -1,12 +1,12 @@
--- `books::difference::first_difference` meets its contract. The invariants: all bytes of the rows before the present one are alike, and in it
+-- `difference::first_difference` meets its contract. The invariants: all bytes of the rows before the present one are alike, and in it
 -- those before the present byte. The measures are what is left of the rows and of the bytes. Assumes nothing.
 use borrow.Author.Needs.{needs}
 use native.Mathlib.Omega.{arith}
 use mathlib.Core.Path.{_≡_, refl, subst}
 use Prim.Native.Nat.{ℕ, _+_, _*_, _-_, _≤_, _<_}
-use Rattle.books.proofs.Differences.{Alike, alike-start, alike-on, alike-stop, alike-end}
-use Rattle.books.proofs.difference.first_difference.Statement.{statement}
-use Rattle.books.proofs.difference.first_difference.Tie as tie
+use Rattle.difference.proofs.Alike.{Alike, alike-start, alike-on, alike-stop, alike-end}
+use Rattle.difference.proofs.first_difference.Statement.{statement}
+use Rattle.difference.proofs.first_difference.Tie as tie
 
 abbrev Inv-loop : tie.InvT-loop
 Inv-loop rows picture row byte₀ byte = (row < 1000) × ((byte ≤ 64) × Alike rows picture (64 * row + byte))
