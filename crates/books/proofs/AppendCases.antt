@@ -1,10 +1,10 @@
 -- Append by its cases: the early refusals, the one by the live states, and what stands when there is none. Assumes nothing.
-use Prim.Native.Nat.{ℕ, zero, suc, _+_, _*_, _≤_, _<_}
+use Prim.Native.Nat.{ℕ, _+_, _≤_, _<_}
 use native.Mathlib.Omega.{arith}
 use mathlib.Core.Path.{_≡_, refl, sym, ap, _∙_}
-use mathlib.Core.Bool.{true, false, not}
+use mathlib.Core.Bool.{true, not}
 use mathlib.Core.List.{List, [], _∷_, _++_}
-use lib.ListN.{length, set}
+use lib.ListN.{length}
 use lib.Dec.{leb, ltb, eqb}
 use borrow.Author.Tests.{leb-false, le-leb, lt-leb, eq-eqb, ne-eqb, eqb-true, eqb-false, not-false, lt-ltb, le-ltb, ltb-false}
 use Rattle.words.specs.Journals.{appended, lastOf, stepsAt}
@@ -15,7 +15,6 @@ use Rattle.words.proofs.Test.{test}
 use Rattle.records.specs.JournalBook.{journalForm, journalsOf, journalBook}
 use Rattle.records.specs.RowBook.{rowBook}
 use Rattle.records.specs.Sound.{rightSizes, sound, BooksOf}
-use Rattle.records.proofs.Form.{form-book}
 use Rattle.records.proofs.Sound.{sound-books}
 use Rattle.books.specs.Numbers.{Refusal, first}
 use Rattle.books.specs.Clear.{after}

@@ -8,7 +8,7 @@ use mathlib.Core.Bool.{Bool, true, false, not, _&&_, false≢true}
 use mathlib.Core.List.{List, [], _∷_}
 use lib.ListN.{length, getD}
 use lib.Dec.{eqb, leb, ltb}
-use borrow.Author.Tests.{eqb-true, eqb-false, leb-true, le-leb, lt-ltb, le-ltb, ltb-true, ltb-false}
+use borrow.Author.Tests.{eqb-true, eqb-false, leb-true, le-leb, ltb-true, ltb-false}
 use Rattle.books.specs.Numbers.{Refusal, first, Given}
 use Rattle.books.specs.Check.{checked, checkCall, Verdict, wrong-sizes, book-one, too-many, book-two, all-right}
 use Rattle.records.specs.Bytes.{same, differ, First}

@@ -1,13 +1,9 @@
 -- After any run of calls from cleared books, the books are those of the journals opened and steps accepted since the last
 -- clearing: each call that is done leaves the books of what it means, and a refused one leaves everything. Assumes nothing.
-use Prim.Native.Nat.{ℕ, zero, suc, _≤_, _<_}
-use native.Mathlib.Omega.{arith}
-use mathlib.Core.Path.{_≡_, refl, sym, ap, subst, _∙_}
-use mathlib.Core.Bool.{true, false, not}
+use Prim.Native.Nat.{ℕ, zero, suc, _≤_}
+use mathlib.Core.Path.{_≡_, refl, ap, subst}
 use mathlib.Core.List.{List, [], _∷_}
-use lib.ListN.{length, replicate}
-use lib.Dec.{leb, ltb, eqb}
-use borrow.Author.Tests.{leb-false, ltb-false, eqb-true}
+use lib.ListN.{length}
 use Rattle.books.specs.Append.{appendRefusals, appendCall}
 use Rattle.books.specs.Clear.{clearCall, zeros}
 use Rattle.books.specs.Numbers.{first, unless}
@@ -16,17 +12,14 @@ use Rattle.books.specs.Runs.{Call, clears, called, means, Ran, runFrom, 
 use Rattle.books.specs.Runs.{opens, appends}
 use Rattle.records.specs.JournalBook.{journalsOf, journalBook}
 use Rattle.records.specs.RowBook.{rowBook}
-use Rattle.records.specs.Sound.{rightSizes, sound, BooksOf}
-use Rattle.words.specs.Journals.{opened, appended, lastOf, stepsAt}
+use Rattle.records.specs.Sound.{BooksOf}
+use Rattle.words.specs.Journals.{opened, appended}
 use Rattle.words.specs.Picture.{picture}
 use Rattle.words.specs.Words.{AreJournals}
 use Rattle.books.proofs.BookSizes.{both-sized}
 use Rattle.books.proofs.OpenCases.{can-open}
 use Rattle.books.proofs.AppendCases.{append-fits}
 use Rattle.records.proofs.Sound.{books-journals, books-sizes, cleared-books}
-use Rattle.words.proofs.Journals.{opened-journals, appended-journals}
-use Rattle.words.proofs.Opening.{never-more}
-use Rattle.words.proofs.Place.{short}
 
 -- the books of the journals
 abbrev Rebooked : List (List ℕ) → Type 0

@@ -7,7 +7,7 @@ use mathlib.Core.Bool.{true, false, cond}
 use mathlib.Core.List.{List, [], _∷_, _++_, append-nil, List·Memᴰ}
 use lib.ListN.{length}
 use lib.Seq.{append-snoc}
-use borrow.Author.Tests.{eq-eqb, ne-eqb, lt-leb, le-ltb, lt-ltb}
+use borrow.Author.Tests.{eq-eqb, ne-eqb, lt-leb, le-ltb}
 use Rattle.walk.specs.Walk.{Walk, at-row, no-row, along, walkFrom, walk}
 use Rattle.books.specs.TableCount.{counted, tableCountCall}
 use Rattle.records.specs.RowBook.{rowBook, countAt}

@@ -1,10 +1,10 @@
 -- The wrong versions that document 01 names break a promise: each is confronted with books on which the promise says otherwise.
 -- Assumes nothing.
-use Prim.Native.Nat.{ℕ, zero, suc, _<_}
+use Prim.Native.Nat.{ℕ, _<_}
 use native.Mathlib.Omega.{arith}
 use mathlib.Core.Path.{_≡_, refl, sym, ap, _∙_}
 use mathlib.Core.List.{List, [], _∷_}
-use lib.ListN.{replicate, getD, drop}
+use lib.ListN.{replicate, getD}
 use Rattle.books.specs.Append.{appendCall}
 use Rattle.books.specs.Check.{checkCall, checkRows, compared}
 use Rattle.books.specs.Clear.{After, clearCall}

@@ -1,6 +1,6 @@
 -- The loading program's entries: what one does to the books, or the number that it is refused with, and what a row of them does. Assumes nothing.
-use Prim.Native.Nat.{ℕ, zero, suc, _+_}
-use mathlib.Core.Bool.{Bool, true, false, cond, not, _&&_, _||_}
+use Prim.Native.Nat.{ℕ, suc, _+_}
+use mathlib.Core.Bool.{cond, not, _&&_}
 use mathlib.Core.List.{List, [], _∷_}
 use lib.ListN.{length, getD}
 use lib.Dec.{eqb, ltb, leb}

@@ -2,7 +2,7 @@
 -- an end of the list, and the tests that its members answer alike leave the same of it. Assumes nothing.
 use Prim.Native.Nat.{ℕ}
 use mathlib.Core.Path.{_≡_, refl, sym, ap, _∙_}
-use mathlib.Core.Logic.{_⊎_, inl, inr, _↔_}
+use mathlib.Core.Logic.{_⊎_, inl, inr}
 use mathlib.Core.Bool.{Bool, true, false, cond, not, false≢true}
 use mathlib.Core.List.{List, [], _∷_, _++_, append-assoc, List·Memᴰ, List·Memᴰ·head, List·Memᴰ·tail, List·Memᴰ·not-nil, List·Memᴰ·cases-cons}
 use lib.ListN.{take, drop, take-append-drop}
@@ -46,11 +46,7 @@ past-from w ds (x ∷ l) f =
     rw (there-cons ds x l, f x (List·Memᴰ·head refl))
     (test (beforeThere x ds) (λ t. rw t ih) (λ n. rw n (ap (λ (m : List (List ℕ)). x ∷ m) ih)))
 
--- nothing is left where all stand before c
-pub from-none : (c : List ℕ) (l : List (List ℕ)) → ((x : List ℕ) → List·Memᴰ x l → before x c ≡ true) → fromOn c l ≡ []
-from-none c l f = from-same c [] l f
-
--- and all where none does
+-- all is left where none stands before c
 from-all : (c : List ℕ) (l : List (List ℕ)) → ((x : List ℕ) → List·Memᴰ x l → before x c ≡ false) → fromOn c l ≡ l
 from-all c [] f = refl
 from-all c (x ∷ l) f = rw (f x (List·Memᴰ·head refl)) (ap (λ (m : List (List ℕ)). x ∷ m) (from-all c l (λ y m. f y (List·Memᴰ·tail m))))
@@ -70,6 +66,7 @@ from-suffix c (x ∷ l) h =
     after n b (inl e) = rw e n
     after n b (inr m) = test (before b c) (λ t. absurd (false≢true (sym n ∙ before-trans x b c (h .0 b m) t))) (λ f. f)
 
+-- what is left are the words of the list that don't stand before the given one
 from-only : (c x : List ℕ) (l : List (List ℕ)) → List·Memᴰ x (fromOn c l) → List·Memᴰ x l × (before x c ≡ false)
 from-only c x [] m = absurd (List·Memᴰ·not-nil m)
 from-only c x (y ∷ l) m =
@@ -89,11 +86,7 @@ from-each c x (y ∷ l) m n = go (λ k. from-each c x l k n) (List·Memᴰ·case
     go ih (inl e) = rw (← e, n) (List·Memᴰ·head refl)
     go ih (inr k) = test (before y c) (λ t. rw t (ih k)) (λ f. rw f (List·Memᴰ·tail (ih k)))
 
--- the members are those of the list that don't stand before the word
-pub from-members : (c x : List ℕ) (l : List (List ℕ)) → List·Memᴰ x (fromOn c l) ↔ (List·Memᴰ x l × (before x c ≡ false))
-from-members c x l = (λ m. from-only c x l m, λ p. from-each c x l (p .0) (p .1))
-
--- and they stand in order
+-- what is left stands in order
 pub from-ascending : (c : List ℕ) (l : List (List ℕ)) → Ascending l → Ascending (fromOn c l)
 from-ascending c [] h = tt
 from-ascending c (x ∷ l) h =

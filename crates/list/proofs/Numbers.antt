@@ -1,5 +1,4 @@
 -- The list call's numbers, what a refusal leaves, and that no second outcome fits. Assumes nothing.
-use Prim.Native.Nat.{ℕ}
 use mathlib.Core.Path.{_≡_}
 use mathlib.Core.Bool.{false}
 use Rattle.books.specs.Numbers.{Given}

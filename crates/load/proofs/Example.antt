@@ -1,7 +1,6 @@
 -- The example of document 01, computed from the definitions: the text that is printed. Assumes nothing.
-use Prim.Native.Nat.{ℕ}
 use mathlib.Core.Path.{_≡_, refl}
-use mathlib.Core.List.{List, [], _∷_, _++_}
+use mathlib.Core.List.{[], _∷_}
 use Rattle.words.specs.Picture.{picture}
 use Rattle.words.specs.Journals.{opened, appended}
 use Rattle.words.specs.Listing.{listOf}

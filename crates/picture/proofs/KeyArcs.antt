@@ -1,29 +1,30 @@
 -- The rows drawn from the table of keys are those of the picture: a key stepped is the key of the state stepped, and the rank of a row's key among
--- the rows' keys, which ascend as the rows do, is the row's number. So a row drawn behind the first i rows is row i. Assumes nothing.
-use Prim.Native.Nat.{ℕ, zero, suc, _+_, _*_, _≤_, _<_}
+-- the rows' keys, which ascend as the rows do, is the row's number. So the records made of the keys are the picture's. Assumes nothing.
+use Prim.Native.Nat.{ℕ, zero, suc, _+_, _≤_, _<_}
 use native.Mathlib.Omega.{arith}
-use mathlib.Core.Path.{_≡_, refl, sym, ap, ap₂, _∙_}
-use mathlib.Core.List.{List, [], _∷_, _++_, map, List·Memᴰ, Memᴰ·map}
-use lib.ListN.{length, take, drop, getD}
+use mathlib.Core.Path.{_≡_, refl, ap, ap₂, _∙_}
+use mathlib.Core.List.{List, _∷_, _++_, map, List·Memᴰ, Memᴰ·map}
+use lib.ListN.{length, take}
 use Rattle.words.specs.Order.{Ascending}
 use Rattle.words.specs.Words.{AreJournals}
 use Rattle.words.specs.Places.{step, live, held}
-use Rattle.words.specs.Picture.{codes, steps, picture, rowOf, arc, arcs}
+use Rattle.words.specs.Picture.{codes, picture, rowOf, arc}
 use Rattle.words.proofs.Members.{picture-ascending}
 use Rattle.words.proofs.Place.{Short, short}
-use Rattle.words.proofs.Rows.{at-mem, step-row, row-width}
+use Rattle.words.proofs.Rows.{step-row, row-width}
 use Rattle.words.proofs.Steps.{step-length}
 use Rattle.words.proofs.Test.{test}
-use Rattle.records.specs.Bytes.{records}
-use Rattle.records.specs.RowBook.{placeBytes, rowBytes}
-use Rattle.records.proofs.Keys.{Widths, key-at, key-back, key-length, keys-ascending, row-keys}
-use Rattle.records.proofs.RowBook.{filled, filled-on}
+use Rattle.records.specs.Bytes.{flat}
+use Rattle.records.specs.RowBook.{placeBytes, rowBytes, rowBook}
+use Rattle.records.proofs.Keys.{Widths, key-back, key-length, keys-ascending, row-keys}
+use Rattle.records.proofs.Flat.{flat-map}
+use Rattle.row.specs.Record.{bytesOf}
 use Rattle.table.specs.Keys.{rankOf}
 use Rattle.table.proofs.Ranks.{rank-row}
-use Rattle.table.proofs.Records.{records-at}
 use Rattle.picture.specs.Nexts.{Tabled}
 use Rattle.picture.specs.Stepped.{steppedKey}
-use Rattle.picture.specs.RowParts.{bytesOf, keyArc, keyArcs}
+use Rattle.picture.specs.KeyRow.{keyArc, keyArcs, keyRow}
+use Rattle.picture.specs.Laid.{unused}
 use Rattle.picture.proofs.Stepped.{stepped-key}
 
 -- the keys of the picture's rows
@@ -65,33 +66,17 @@ module _ (js : List (List ℕ)) (are : AreJournals js) where
           let t : take (length js) (placeBytes q) ≡ q = rw (← step-length js a s (widths a m)) (key-back q) in
           rw (stepped s b, t) (test (live q) (λ y. rw y (key-rank q (step-row js each-short a m s b y))) (λ n. rw n))
 
-      arcs-from : (i n : ℕ) → i + n ≡ 16 → keyArcs nexts (length js) (rowKeys js) (placeBytes a) (codes i n) ≡ arcs js (picture js) a (codes i n)
-      unfolding keyArcs
+      arcs-from : (i n : ℕ) → i + n ≡ 16 → map (keyArc nexts (length js) (rowKeys js) (placeBytes a)) (codes i n) ≡ map (arc js (picture js) a) (codes i n)
       arcs-from i zero e = refl
       arcs-from i (suc n) e = ap₂ (λ (x : ℕ) (l : List ℕ). x ∷ l) (key-arc i (omega arith)) (arcs-from (suc i) n (omega arith))
 
       -- the record made of a row's key is the row's
-      pub key-row : bytesOf (placeBytes a) (keyArcs nexts (length js) (rowKeys js) (placeBytes a) steps) (held (take (length js) (placeBytes a))) ≡ rowBytes js a
-      unfolding bytesOf
-      key-row = rw (arcs-from 0 16 refl, row-back)
+      pub key-row : keyRow nexts (length js) (rowKeys js) (placeBytes a) ≡ rowBytes js a
+      unfolding bytesOf keyArcs
+      key-row = ap₂ (bytesOf (placeBytes a)) (arcs-from 0 16 refl) (ap held row-back)
 
-    module _ (k n : ℕ) (t : List ℕ) (ek : k ≡ length js) (en : n ≡ length (picture js)) (ks : records 16 n t ≡ rowKeys js) (i : ℕ) (b : i < n) where
-      abbrev Key : List ℕ
-      Key = take 16 (drop (16 * i) t)
-
-      abbrev Drawn : List ℕ
-      Drawn = bytesOf Key (keyArcs nexts k (records 16 n t) Key steps) (held (take k Key))
-
-      within : i < length (picture js)
-      within = omega arith
-
-      key-is : Key ≡ placeBytes (getD (picture js) i [])
-      key-is = sym (records-at 16 n t i b) ∙ ap (λ (l : List (List ℕ)). getD l i []) ks ∙ key-at (picture js) i [] within
-
-      -- the record made of key i of a table of all rows' keys is that of row i
-      table-row : Drawn ≡ rowBytes js (getD (picture js) i [])
-      table-row = rw (ek, ks, key-is) (key-row (getD (picture js) i []) (at-mem (picture js) i within))
-
-      -- it is written behind the first i rows
-      pub draws : n ≤ 1000 → (rows : List ℕ) → rows ≡ filled js i → take (64 * i) rows ++ (Drawn ++ drop (64 * i + 64) rows) ≡ filled js (i + 1)
-      draws most rows e = rw (e, table-row) (filled-on js each-short (are .few) (omega arith) i within)
+    -- the records made of all rows' keys, and zeros behind them, are the picture's book
+    pub keys-book : (k n : ℕ) (keys : List (List ℕ)) → k ≡ length js → n ≡ length (picture js) → keys ≡ rowKeys js
+        → flat (keyRow nexts k keys) keys ++ unused n ≡ rowBook js
+    unfolding rowBook
+    keys-book k n keys ek en e = rw (ek, en, e, flat-map (keyRow nexts (length js) (rowKeys js)) (rowBytes js) placeBytes (picture js) key-row)

@@ -3,6 +3,8 @@ pub mod Live
 pub mod Stepped
 pub mod Added
 pub mod Sweeping
-pub mod RowParts
+pub mod KeyRow
+pub mod Laid
+pub mod Linked
 pub mod KeyArcs
 pub mod Drawn

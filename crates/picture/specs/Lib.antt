@@ -1,5 +1,6 @@
 pub mod Nexts
 pub mod Stepped
 pub mod Found
-pub mod RowParts
+pub mod KeyRow
+pub mod Laid
 pub mod Drawn

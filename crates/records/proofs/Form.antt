@@ -1,15 +1,15 @@
 -- The journal book and its journals give each other back, by induction over n records:
 -- behind an open record stands a book of journals, behind another only zeros. Assumes nothing.
-use Prim.Native.Nat.{ℕ, zero, suc, _+_, _-_, _*_, _≤_, _<_}
+use Prim.Native.Nat.{ℕ, zero, suc, _+_, _-_, _*_, _≤_}
 use native.Mathlib.Omega.{arith}
 use mathlib.Core.Path.{_≡_, refl, sym, ap, ap₂, _∙_}
-use mathlib.Core.Logic.{_⊎_, inl, inr, _↔_, ⊎-elim}
+use mathlib.Core.Logic.{_⊎_, _↔_, ⊎-elim}
 use mathlib.Core.Bool.{Bool, true, false, not, _&&_, _||_, false≢true}
 use mathlib.Core.List.{List, [], _∷_, _++_, append-assoc, List·Memᴰ, List·Memᴰ·not-nil, List·Memᴰ·cases-cons}
 use lib.ListN.{length, take, drop, replicate, length-append, length-replicate, length-drop, take-append-drop, replicate-append-replicate}
-use lib.Seq.{take-at, drop-at, length-take-le, drop-drop}
+use lib.Seq.{take-at, drop-at, length-take-le}
 use lib.Dec.{eqb}
-use borrow.Author.Tests.{eqb-true, eqb-false, eq-eqb}
+use borrow.Author.Tests.{eqb-true, eq-eqb}
 use Rattle.records.specs.Bytes.{records, flat}
 use Rattle.records.specs.JournalBook.{isOpen, recordForm, wrongRecord, firstWrong, firstWrongRecord, journalForm, openOnes, journalsOf, journalRecord, journalBook}
 use Rattle.records.specs.StepBytes.{stepsOf}

@@ -3,15 +3,13 @@
 use Prim.Native.Nat.{ℕ, zero, suc, _-_, _≤_, _<_}
 use native.Mathlib.Omega.{arith}
 use mathlib.Core.Path.{_≡_, refl, sym, _∙_}
-use mathlib.Core.Logic.{⊎-elim}
 use mathlib.Core.List.{List, [], _∷_, _++_, map, List·Memᴰ, List·Memᴰ·head, List·Memᴰ·tail}
 use lib.ListN.{length, take, getD, replicate, length-append, length-replicate}
 use lib.Seq.{take-at}
 use Rattle.words.specs.Order.{before, Ascending}
 use Rattle.words.specs.Picture.{insert, rowOf}
 use Rattle.words.proofs.Opening.{map-ascending}
-use Rattle.words.proofs.Order.{before-irrefl, insert-only}
-use Rattle.words.proofs.Rows.{at-mem}
+use Rattle.words.proofs.Order.{before-irrefl}
 use Rattle.words.proofs.Test.{test}
 use Rattle.records.specs.RowBook.{placeBytes}
 
@@ -45,17 +43,9 @@ key-at (a ∷ l) zero d b = refl
 key-at (a ∷ l) (suc i) d b = key-at l i d (omega arith)
 
 module _ (k : ℕ) where
-  -- the first k bytes of the key at a number are the state there
-  pub state-at : (l : List (List ℕ)) → Widths k l → (i : ℕ) (d : List ℕ) → i < length l → take k (getD (map placeBytes l) i d) ≡ getD l i []
-  state-at l w i d b = rw (key-at l i d b, ← w (getD l i []) (at-mem l i b)) (key-back (getD l i []))
-
   -- the keys of ascending states ascend
   pub keys-ascending : (l : List (List ℕ)) → Widths k l → Ascending l → Ascending (map placeBytes l)
   keys-ascending l w h = map-ascending placeBytes l (λ a b m n t. place-order a b (w a m ∙ sym (w b n)) ∙ t) h
-
-  -- a state inserted keeps the width
-  pub insert-widths : (q : List ℕ) (l : List (List ℕ)) → length q ≡ k → Widths k l → Widths k (insert q l)
-  insert-widths q l e w a m = ⊎-elim (λ (i : a ≡ q). rw i e) (λ (n : List·Memᴰ a l). w a n) (insert-only q a l m)
 
   -- a key inserted among keys is its state inserted among their states
   pub insert-keys : (q : List ℕ) (l : List (List ℕ)) → length q ≡ k → Widths k l → insert (placeBytes q) (map placeBytes l) ≡ map placeBytes (insert q l)

@@ -5,7 +5,7 @@ pub mod Form
 pub mod FirstWrong
 pub mod Keys
 pub mod RowBytes
-pub mod RowBook
+pub mod Replaced
 pub mod Sound
 pub mod Writing
 pub mod Below

@@ -8,11 +8,12 @@ use lib.ListN.{length, getD, replicate, length-append, length-replicate, List·g
 use lib.Seq.{getD-append-add, getD-at}
 use Rattle.records.specs.Bytes.{flat, twoBytes}
 use Rattle.records.specs.RowBook.{placeBytes, arcBytes, rowBytes, rowBook, countAt, arcAt}
-use Rattle.words.specs.Picture.{codes, steps, rowOf, arc, arcs, picture}
+use Rattle.words.specs.Picture.{rowOf, arc, arcs, picture}
 use Rattle.words.specs.Places.{held, state, live}
 use Rattle.words.specs.Words.{IsWord, AreJournals, count}
 use Rattle.records.proofs.Flat.{Wide, flat-at, length-flat}
 use Rattle.records.proofs.Keys.{key-length}
+use Rattle.words.proofs.Codes.{at-step}
 use Rattle.words.proofs.Members.{picture-ascending, picture-members}
 use Rattle.words.proofs.Place.{Short, short, held-count}
 use Rattle.words.proofs.Rows.{row-is, row-width}
@@ -32,24 +33,15 @@ two-high [] k h = absurd (omega arith)
 two-high (n ∷ ns) zero h = refl
 two-high (n ∷ ns) (suc k) h = let e : 1 + 2 * suc k ≡ suc (suc (1 + 2 * k)) = omega arith in rw e (two-high ns k (omega arith))
 
-length-arcs : (js rows : List (List ℕ)) (a ss : List ℕ) → length (arcs js rows a ss) ≡ length ss
-length-arcs js rows a [] = refl
-length-arcs js rows a (s ∷ ss) = ap suc (length-arcs js rows a ss)
-
-arcs-at : (js rows : List (List ℕ)) (a : List ℕ) (i n k : ℕ) → k < n → getD (arcs js rows a (codes i n)) k 0 ≡ arc js rows a (i + k)
-arcs-at js rows a i zero k h = absurd (omega arith)
-arcs-at js rows a i (suc n) zero h = ap (λ (m : ℕ). arc js rows a m) (omega arith)
-arcs-at js rows a i (suc n) (suc k) h = arcs-at js rows a (suc i) n k (omega arith) ∙ ap (λ (m : ℕ). arc js rows a m) (omega arith)
-
 module _ (js : List (List ℕ)) (a : List ℕ) (fits : length a ≤ 16) where
   abbrev As : List ℕ
-  As = arcs js (picture js) a steps
+  As = arcs js (picture js) a
 
   abbrev Front : List ℕ
   Front = placeBytes a ++ arcBytes js a
 
   length-front : length Front ≡ 48
-  length-front = omega (arith, length-append (placeBytes a) (twoBytes As), key-length a fits, length-two As, length-arcs js (picture js) a steps)
+  length-front = omega (arith, length-append (placeBytes a) (twoBytes As), key-length a fits, length-two As)
 
   -- a row has 64 bytes
   pub row-length : length (rowBytes js a) ≡ 64
@@ -72,9 +64,8 @@ module _ (js : List (List ℕ)) (a : List ℕ) (fits : length a ≤ 16) where
   pub row-arc : (s : ℕ) → s < 16 → getD (rowBytes js a) (16 + 2 * s) 0 + 256 * getD (rowBytes js a) (17 + 2 * s) 0 ≡ arc js (picture js) a s
   row-arc s h =
       let e : 17 + 2 * s ≡ 16 + (1 + 2 * s) = omega arith in
-      let n : s < length As = omega (arith, length-arcs js (picture js) a steps) in
-      let z : arc js (picture js) a (0 + s) ≡ arc js (picture js) a s = ap (λ (m : ℕ). arc js (picture js) a m) (omega arith) in
-      rw (e, in-arcs (2 * s) (omega arith), in-arcs (1 + 2 * s) (omega arith), two-low As s n, two-high As s n, arcs-at js (picture js) a 0 16 s h, z) (omega arith)
+      let n : s < length As = omega arith in
+      rw (e, in-arcs (2 * s) (omega arith), in-arcs (1 + 2 * s) (omega arith), two-low As s n, two-high As s n, at-step (arc js (picture js) a) s h) (omega arith)
 
   -- byte 48 is the count
   pub row-count : getD (rowBytes js a) 48 0 ≡ held a

@@ -1,7 +1,7 @@
 -- Books are sound exactly when they are the books of some journals, and those are the journals of the journal book. Assumes nothing.
 use Prim.Native.Nat.{ℕ}
 use native.Mathlib.Omega.{arith}
-use mathlib.Core.Path.{_≡_, refl, sym, ap, _∙_}
+use mathlib.Core.Path.{_≡_, refl, ap, _∙_}
 use mathlib.Core.Logic.{_↔_}
 use mathlib.Core.Bool.{true, _&&_}
 use mathlib.Core.List.{List, []}

@@ -1,9 +1,9 @@
 -- What opening and appending write into the journal book: one byte for a journal, two for a step. A journal's record begins at as many
 -- widths as journals stand before it. Assumes nothing.
-use Prim.Native.Nat.{ℕ, zero, suc, _+_, _-_, _*_, _≤_, _<_}
+use Prim.Native.Nat.{ℕ, zero, suc, _+_, _-_, _*_, _<_}
 use native.Mathlib.Omega.{arith}
-use mathlib.Core.Path.{_≡_, refl, sym, ap, ap₂, _∙_}
-use mathlib.Core.List.{List, [], _∷_, _++_, append-assoc, append-nil}
+use mathlib.Core.Path.{_≡_, refl, sym, ap, _∙_}
+use mathlib.Core.List.{List, [], _∷_, _++_, append-assoc}
 use lib.ListN.{length, getD, set, replicate, length-append, replicate-append-replicate}
 use lib.Seq.{set-at, append-snoc}
 use Rattle.words.specs.Journals.{opened, appendedAt, stepsAt}

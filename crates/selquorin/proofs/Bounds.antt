@@ -5,7 +5,7 @@ use native.Mathlib.Omega.{arith}
 use mathlib.Core.Path.{_≡_, refl, subst, sym, ap, _∙_}
 use mathlib.Core.Bool.{Bool, true, false, not, _||_, false≢true}
 use mathlib.Core.List.{List}
-use lib.ListN.{length, take, length-take}
+use lib.ListN.{length, length-take}
 use lib.Dec.{eqb, ltb}
 use borrow.Author.Tests.{ltb-false}
 use Rattle.records.specs.Sound.{rightSizes}

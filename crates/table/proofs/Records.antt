@@ -3,7 +3,8 @@
 use Prim.Native.Nat.{ℕ, zero, suc, _+_, _*_, _≤_, _<_}
 use native.Mathlib.Omega.{arith}
 use mathlib.Core.Path.{_≡_, refl, ap, _∙_}
-use mathlib.Core.List.{List, [], _∷_, _++_, append-assoc}
+use mathlib.Core.Logic.{⊎-elim}
+use mathlib.Core.List.{List, [], _∷_, _++_, append-assoc, List·Memᴰ, List·Memᴰ·not-nil, List·Memᴰ·cases-cons}
 use lib.ListN.{length, take, drop, getD, length-drop}
 use lib.Seq.{take-add, drop-drop, take-at, drop-at, length-take-le}
 use Rattle.records.specs.Bytes.{records}
@@ -12,6 +13,14 @@ module _ (m : ℕ) where
   pub length-records : (n : ℕ) (t : List ℕ) → length (records m n t) ≡ n
   length-records zero t = refl
   length-records (suc n) t = ap suc (length-records n (drop m t))
+
+  -- each has the width
+  pub records-wide : (n : ℕ) (t : List ℕ) → m * n ≤ length t → (a : List ℕ) → List·Memᴰ a (records m n t) → length a ≡ m
+  records-wide zero t h a i = absurd (List·Memᴰ·not-nil i)
+  records-wide (suc n) t h a i =
+      ⊎-elim (λ (e : a ≡ take m t). rw e (length-take-le m t (omega arith)))
+      (λ (j : List·Memᴰ a (records m n (drop m t))). records-wide n (drop m t) (omega (arith, length-drop m t)) a j)
+      (List·Memᴰ·cases-cons i)
 
   -- record i
   pub records-at : (n : ℕ) (t : List ℕ) (i : ℕ) → i < n → getD (records m n t) i [] ≡ take m (drop (m * i) t)

@@ -50,10 +50,10 @@ module _ (b : List ℕ) (r t : ℕ) (rest : Walk) where
   along-good n y = rw (ne-eqb t 0 n, y)
 
 -- the walk at an index of the word, in the words of the code's locals
-pub from-on : (b w : List ℕ) (q r i s t : ℕ) → i < length w → walkFrom b q w ≡ walkFrom b r (drop i w) → s ≡ getD w i 0 → t ≡ arcAt b r s
+pub from-on : (b w : List ℕ) (q r i t : ℕ) → i < length w → walkFrom b q w ≡ walkFrom b r (drop i w) → t ≡ arcAt b r (getD w i 0)
     → walkFrom b q w ≡ along b r t (walkFrom b t (drop (i + 1) w))
 unfolding walkFrom
-from-on b w q r i s t h e f g = e ∙ rw (step-rest w i h, g, f)
+from-on b w q r i t h e g = e ∙ rw (step-rest w i h, g)
 
 pub from-end : (b w : List ℕ) (r i : ℕ) → length w ≤ i → walkFrom b r (drop i w) ≡ at-row r
 unfolding walkFrom

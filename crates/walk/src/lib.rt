@@ -7,13 +7,11 @@ ghost use lib.ListN.{length};
 ghost use Rattle.words.specs.Limits.{stepCodes};
 ghost use Rattle.records.specs.Sizes.{rowBookSize, mostRows};
 ghost use Rattle.records.specs.Bytes.{allBelow};
-ghost use Rattle.records.specs.RowBook.{countAt, arcAt};
 ghost use Rattle.walk.specs.Walk.{badArc, walkFrom, walk};
 ghost use Rattle.walk.specs.Walked.{ended};
-use records::ARCS;
-use records::COUNT;
-use records::ROW_RECORD;
 use records::ROWS;
+use row::arc_at;
+use row::count_at;
 use words::JOURNALS;
 
 // Where a walk ends: in a row, in no row, or in damage.
@@ -28,25 +26,6 @@ fn wide(byte: u8) -> usize
     ensures { λ r. ⌜ (r ≡ byte) × (r < 256) ⌝ }
 {
     byte as usize
-}
-
-// A row's count byte, in a book of the right size.
-pub fn count_at(rows: &[u8], r: usize) -> u8
-    requires { ⌜ (length (now rows) ≡ rowBookSize) × (r < mostRows) ⌝ }
-    ensures { λ c. ⌜ c ≡ countAt (now (rows .entry)) r ⌝ }
-{
-    rows[ROW_RECORD * r + COUNT]
-}
-
-// A row's arc under a step, in a book of the right size: two bytes, low byte first.
-fn arc_at(rows: &[u8], r: usize, s: usize) -> usize
-    requires { ⌜ (length (now rows) ≡ rowBookSize) × (r < mostRows) × (s < stepCodes) ⌝ }
-    ensures { λ t. ⌜ t ≡ arcAt (now (rows .entry)) r s ⌝ }
-{
-    let at = ROW_RECORD * r + (ARCS + 2 * s);
-    let low = wide(rows[at]);
-    let high = wide(rows[at + 1]);
-    low + 256 * high
 }
 
 // Whether an arc t of row r is damage: it doesn't rise, is no row, or ends at a count of 0 or above 16.
@@ -72,7 +51,7 @@ fn walk_from(rows: &[u8], row: usize, word: &[u8]) -> Walked
     let mut r = row;
     let mut i = 0;
     while i < word.len() {
-        let t = arc_at(rows, r, wide(word[i]));
+        let t = arc_at(rows, r, word[i]) as usize;
         if t == 0 {
             return Walked::Nowhere;
         }

@@ -1,9 +1,9 @@
 -- Opening and appending leave journals: at most 200 steps each, all of them codes. Assumes nothing.
-use Prim.Native.Nat.{ℕ, zero, suc, _+_, _≤_, _<_}
+use Prim.Native.Nat.{ℕ, zero, suc, _+_, _<_}
 use native.Mathlib.Omega.{arith}
 use mathlib.Core.Path.{_≡_, refl, ap}
-use mathlib.Core.List.{List, [], _∷_, _++_}
-use lib.ListN.{length, getD, length-append}
+use mathlib.Core.List.{List, [], _∷_}
+use lib.ListN.{length, length-append}
 use Rattle.words.specs.Journals.{opened, appendedAt, lastOf, stepsAt, appended}
 use Rattle.words.specs.Words.{EachJournal, AreJournals}
 use Rattle.words.proofs.Members.{snoc-steps}

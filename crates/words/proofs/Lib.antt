@@ -1,5 +1,6 @@
 pub mod Worked
 pub mod Test
+pub mod Codes
 pub mod Place
 pub mod Least
 pub mod Order

@@ -1,12 +1,12 @@
 -- P1 to P10 of document 01, as one table: what the definitions compute, beside what the document says. Assumes nothing.
-use Prim.Native.Nat.{ℕ, zero, suc}
+use Prim.Native.Nat.{ℕ}
 use mathlib.Core.Path.{_≡_, refl}
 use mathlib.Core.List.{List, [], _∷_, map}
 use lib.ListN.{length}
 use Rattle.words.specs.Journals.{appended}
 use Rattle.words.specs.Limits.{lost}
 use Rattle.words.specs.Listing.{listOf}
-use Rattle.words.specs.Picture.{picture, arcs, steps}
+use Rattle.words.specs.Picture.{picture, arcs}
 use Rattle.words.specs.Places.{held}
 use Rattle.words.specs.Words.{count}
 
@@ -36,7 +36,7 @@ table =
     ∷ record { computed = numbers (map held (picture two)); said = numbers (2 ∷ 2 ∷ 2 ∷ 2 ∷ 1 ∷ 1 ∷ []) }
     -- P3 arcs: row 0 by 1 to 1, by 2 to 2; row 1 by 1 to 3, by 2 to 2; row 2 by 1 to 4; row 3 by 2 to 5; no others.
     ∷ record {
-      computed = map (λ a. arcs two (picture two) a steps) (picture two);
+      computed = map (λ a. arcs two (picture two) a) (picture two);
       said =
           (0 ∷ 1 ∷ 2 ∷ 0 ∷ 0 ∷ 0 ∷ 0 ∷ 0 ∷ 0 ∷ 0 ∷ 0 ∷ 0 ∷ 0 ∷ 0 ∷ 0 ∷ 0 ∷ [])
           ∷ (0 ∷ 3 ∷ 2 ∷ 0 ∷ 0 ∷ 0 ∷ 0 ∷ 0 ∷ 0 ∷ 0 ∷ 0 ∷ 0 ∷ 0 ∷ 0 ∷ 0 ∷ 0 ∷ [])

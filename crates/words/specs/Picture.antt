@@ -2,7 +2,7 @@
 use Prim.Native.Nat.{ℕ, zero, suc, max}
 use mathlib.Core.Logic.{_↔_}
 use mathlib.Core.Bool.{cond}
-use mathlib.Core.List.{List, [], _∷_, List·Memᴰ}
+use mathlib.Core.List.{List, [], _∷_, map, List·Memᴰ}
 use lib.ListN.{length}
 use Rattle.words.specs.Limits.{stepCodes}
 use Rattle.words.specs.Places.{state, step, live, LiveState}
@@ -64,6 +64,6 @@ rowOf a i (b ∷ l) = cond (before a b) zero (cond (before b a) (rowOf a (suc i)
 abbrev pub arc : List (List ℕ) → List (List ℕ) → List ℕ → ℕ → ℕ
 arc js rows a s = cond (live (step js a s)) (rowOf (step js a s) 0 rows) 0
 
-abbrev pub arcs : List (List ℕ) → List (List ℕ) → List ℕ → List ℕ → List ℕ
-arcs js rows a [] = []
-arcs js rows a (s ∷ ss) = arc js rows a s ∷ arcs js rows a ss
+-- its arcs by step
+abbrev pub arcs : List (List ℕ) → List (List ℕ) → List ℕ → List ℕ
+arcs js rows a = map (arc js rows a) steps

@@ -3,7 +3,7 @@
 use borrow.Author.Needs.{needs}
 use native.Mathlib.Omega.{arith}
 use mathlib.Core.Path.{_≡_, refl, subst}
-use Prim.Native.Nat.{ℕ, _+_, _*_, _-_, _≤_, _<_}
+use Prim.Native.Nat.{_+_, _*_, _-_, _≤_, _<_}
 use Rattle.difference.proofs.Alike.{Alike, alike-start, alike-on, alike-stop, alike-end}
 use Rattle.difference.proofs.first_difference.Statement.{statement}
 use Rattle.difference.proofs.first_difference.Tie as tie

@@ -2,7 +2,6 @@
 -- under what is left of the word ends. An arc that isn't bad is a row again. The measure is what is left of the word.
 -- Assumes nothing.
 use Prim.Native.Nat.{_+_, _≤_, _<_, _-_}
-use native.Mathlib.Omega.{arith}
 use borrow.Author.Needs.{needs}
 use mathlib.Core.Path.{_≡_, sym, _∙_}
 use lib.ListN.{length, drop}
@@ -14,9 +13,8 @@ use Rattle.walk.proofs.walk_from.Statement.{statement}
 use Rattle.walk.proofs.walk_from.Tie as tie
 use Rattle.walk.proofs.walk_from.Reads as reads
 use Rattle.walk.proofs.walk_from.Lts as lts
-use Rattle.walk.proofs.arc_at.Reads as arc-at-reads
+use Rattle.row.proofs.arc_at.Reads as arc-at-reads
 use Rattle.walk.proofs.bad_arc.Reads as bad-arc-reads
-use Rattle.walk.proofs.wide.Reads as wide-reads
 
 abbrev Inv-loop : tie.InvT-loop
 Inv-loop rows row word r₀ i₀ r i = (i ≤ length word) × (r < mostRows) × (walkFrom rows row word ≡ walkFrom rows r (drop i word))
@@ -27,31 +25,32 @@ abbrev μ-loop : tie.MeasureT-loop
 -- the place where the arc is read
 abbrev Read : Type 0
 Read =
-    lts.After-arc-at (wide-reads.Asked, wide-reads.Learnt, arc-at-reads.Asked, arc-at-reads.Learnt, bad-arc-reads.Asked, bad-arc-reads.Learnt) reads.Pre reads.Post Inv-loop μ-loop
+    lts.After-arc-at (arc-at-reads.Asked, arc-at-reads.Learnt, bad-arc-reads.Asked, bad-arc-reads.Learnt) reads.Pre reads.Post Inv-loop μ-loop
 
 -- the invariant's equation there
 arc-read : (a : Read)
-    → let asked = a .before .before .before .before .before .before .before .args in
+    → let asked = a .before .before .before .before .before .before .args in
+    let l = a .before .before .before .loop in
     let t = a .arc-at .result in
-    walkFrom (asked .rows .now) (asked .row) (asked .word .now)
-    ≡ along (asked .rows .now) (a .before .before .before .before .loop .r) t (walkFrom (asked .rows .now) t (drop (a .before .before .before .before .loop .i + 1) (asked .word .now)))
+    walkFrom (asked .rows .now) (asked .row) (asked .word .now) ≡ along (asked .rows .now) (l .r) t (walkFrom (asked .rows .now) t (drop (l .i + 1) (asked .word .now)))
 arc-read a =
-    let asked = a .before .before .before .before .before .before .before .args in
-    from-on (asked .rows .now) (asked .word .now) (asked .row) (a .before .before .before .before .loop .r) (a .before .before .before .before .loop .i) (a .before .wide .result) (a .arc-at .result)
-    (search needs) (a .before .before .before .before .loop .inv .2) (a .before .wide .ensures .0) (a .arc-at .ensures)
+    let asked = a .before .before .before .before .before .before .args in
+    let l = a .before .before .before .loop in
+    from-on (asked .rows .now) (asked .word .now) (asked .row) (l .r) (l .i) (a .arc-at .result) (search needs) (l .inv .2) (a .arc-at .ensures)
 
 loop-holds : tie.Need-loop-holds Inv-loop μ-loop
 loop-holds c = search needs
 
-shared-slice-read-wide : tie.Need-shared-slice-read-wide Inv-loop μ-loop
-shared-slice-read-wide c = search needs
-
-wide-requires : tie.Need-wide-requires Inv-loop μ-loop
-wide-requires c κs = search needs
+shared-slice-read-arc-at : tie.Need-shared-slice-read-arc-at Inv-loop μ-loop
+shared-slice-read-arc-at c = search needs
 
 arc-at-requires : tie.Need-arc-at-requires Inv-loop μ-loop
 arc-at-requires c κs =
-    (search needs, search needs, omega (arith, c .wide .ensures .0, step-code (c .before .before .before .before .before .before .args .word .now) (c .before .before .before .before .before .before .pre .2) (c .before .before .before .loop .i)))
+    let s = c .before .before .before .before .before in
+    (search needs, search needs, step-code (s .args .word .now) (s .pre .2) (c .before .before .loop .i))
+
+cast-t : tie.Need-cast-t Inv-loop μ-loop
+cast-t c = search needs
 
 returns : tie.Need-returns Inv-loop μ-loop
 returns c = sym (arc-read (c .before) ∙ along-zero _ _ _ _ (c .if1 .taken))
@@ -71,7 +70,7 @@ loop-less c = search needs
 loop-again : tie.Need-loop-again Inv-loop μ-loop
 loop-again c =
     let good = sym (c .before .bad-arc .ensures) ∙ c .if2 .left in
-    (search needs, good-row (c .before .before .before .before .before .before .before .before .before .before .args .rows .now) _ _ good, arc-read (c .before .before .before) ∙ along-good _ _ _ _ (c .before .before .if1 .left) good)
+    (search needs, good-row (c .before .before .before .before .before .before .before .before .before .args .rows .now) _ _ good, arc-read (c .before .before .before) ∙ along-good _ _ _ _ (c .before .before .if1 .left) good)
 
 returns-3 : tie.Need-returns-3 Inv-loop μ-loop
 returns-3 c =
@@ -85,9 +84,9 @@ walk-from-spec =
     Inv-loop
     μ-loop
     loop-holds
-    shared-slice-read-wide
-    wide-requires
+    shared-slice-read-arc-at
     arc-at-requires
+    cast-t
     returns
     bad-arc-requires
     returns-2

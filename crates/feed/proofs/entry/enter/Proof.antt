@@ -1,7 +1,6 @@
 -- `feed::entry::enter` meets its contract: the journal count of the empty word is refused exactly as the journal book is, and else
 -- it is the number of journals open, at most 16. Then each arm does what its entry asks for. Assumes nothing.
 use mathlib.Core.Path.{sym, ap, _∙_}
-use Rattle.books.specs.declared.Counted.{Counted}
 use Rattle.feed.specs.Entry.{enter}
 use Rattle.feed.specs.Asked.{asks}
 use Rattle.feed.proofs.EmptyCount.{entry-refused, entered, counted-few}

@@ -1,4 +1,4 @@
--- `picture::row::arc_of` meets its contract. The key that the step leads to is live or not, and the arc is defined by just that test; a rank is at
+-- `picture::arcs::arc_of` meets its contract. The key that the step leads to is live or not, and the arc is defined by just that test; a rank is at
 -- most the number of keys, so that it fits two bytes. Assumes nothing.
 use native.Mathlib.Omega.{arith}
 use borrow.Author.Needs.{needs}
@@ -6,9 +6,9 @@ use mathlib.Core.Path.{sym, _∙_}
 use Rattle.records.specs.Bytes.{records}
 use Rattle.table.proofs.Ranks.{rank-most}
 use Rattle.table.proofs.Records.{length-records}
-use Rattle.picture.proofs.RowParts.{arc-live, arc-lost}
-use Rattle.picture.proofs.row.arc_of.Statement.{statement}
-use Rattle.picture.proofs.row.arc_of.Tie as tie
+use Rattle.picture.proofs.KeyRow.{arc-live, arc-lost}
+use Rattle.picture.proofs.arcs.arc_of.Statement.{statement}
+use Rattle.picture.proofs.arcs.arc_of.Tie as tie
 
 step-key-requires : tie.Need-step-key-requires
 step-key-requires c κs = search needs

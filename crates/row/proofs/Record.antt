@@ -1,19 +1,13 @@
--- A row record by its ranges: bytes 0 to 15 the places, 16 to 47 the arcs, low byte first, 48 the count, and zeros behind it. And the arcs of a key: by
--- whether the key that a step leads to is live, and by the step. Assumes nothing.
+-- A row record by its ranges: bytes 0 to 15 the places, 16 to 47 the arcs, low byte first, 48 the count, and zeros behind it. Assumes nothing.
 use Prim.Native.Nat.{ℕ, zero, suc, _+_, _-_, _*_, _/_, _%_, _≤_, _<_}
 use native.Mathlib.Omega.{arith}
-use mathlib.Core.Path.{_≡_, refl, sym, ap, _∙_}
-use mathlib.Core.Bool.{true, false}
-use mathlib.Core.List.{List, [], _∷_, _++_}
-use lib.ListN.{length, take, getD, replicate, length-append, getD-replicate, List·getD-append}
+use mathlib.Core.Path.{_≡_, sym, ap, _∙_}
+use mathlib.Core.List.{List, _∷_, _++_}
+use lib.ListN.{length, getD, replicate, length-append, getD-replicate, List·getD-append}
 use lib.Seq.{getD-append-add, getD-at}
-use Rattle.words.specs.Places.{live}
-use Rattle.words.specs.Picture.{codes, steps}
 use Rattle.records.specs.Bytes.{twoBytes}
 use Rattle.records.proofs.RowBytes.{length-two, two-low, two-high}
-use Rattle.table.specs.Keys.{rankOf}
-use Rattle.picture.specs.Stepped.{steppedKey}
-use Rattle.picture.specs.RowParts.{bytesOf, keyArc, keyArcs}
+use Rattle.row.specs.Record.{bytesOf}
 
 module _ (places arcs : List ℕ) (count : ℕ) (p : length places ≡ 16) (a : length arcs ≡ 16) where
   abbrev Front : List ℕ
@@ -59,31 +53,3 @@ module _ (places arcs : List ℕ) (count : ℕ) (p : length places ≡ 16) (a : 
       ap (λ (m : ℕ). getD (Front ++ count ∷ replicate 15 0) m 0) e
       ∙ getD-append-add Front (count ∷ replicate 15 0) (suc (c - 49)) 0
       ∙ getD-replicate 15 (c - 49) 0 0 (omega arith)
-
-module _ (nexts : List ℕ) (k : ℕ) (keys : List (List ℕ)) (key : List ℕ) where
-  module _ (s : ℕ) (to : List ℕ) (e : to ≡ steppedKey nexts k key s) where
-    -- the arc to a key that is live
-    pub arc-live : live (take k to) ≡ true → rankOf to keys ≡ keyArc nexts k keys key s
-    unfolding keyArc
-    arc-live t = rw (← e, t)
-
-    -- the arc to a key that isn't
-    pub arc-lost : live (take k to) ≡ false → 0 ≡ keyArc nexts k keys key s
-    unfolding keyArc
-    arc-lost f = rw (← e, f)
-
-  -- there is an arc for each step
-  pub length-arcs : (ss : List ℕ) → length (keyArcs nexts k keys key ss) ≡ length ss
-  unfolding keyArcs
-  length-arcs [] = refl
-  length-arcs (s ∷ ss) = ap suc (length-arcs ss)
-
-  arc-from : (i n s : ℕ) → s < n → getD (keyArcs nexts k keys key (codes i n)) s 0 ≡ keyArc nexts k keys key (i + s)
-  unfolding keyArcs
-  arc-from i zero s h = absurd (omega arith)
-  arc-from i (suc n) zero h = ap (keyArc nexts k keys key) (omega arith)
-  arc-from i (suc n) (suc s) h = arc-from (suc i) n s (omega arith) ∙ ap (keyArc nexts k keys key) (omega arith)
-
-  -- the arc under a step
-  pub arc-at : (s : ℕ) → s < 16 → getD (keyArcs nexts k keys key steps) s 0 ≡ keyArc nexts k keys key s
-  arc-at s h = arc-from 0 16 s h ∙ ap (keyArc nexts k keys key) (omega arith)

@@ -1,4 +1,4 @@
--- `picture::row::write_row` meets its contract. The loop's invariant: the first c bytes of the record are pasted over the rows from `at` on, and
+-- `row::write_row` meets its contract. The loop's invariant: the first c bytes of the record are pasted over the rows from `at` on, and
 -- there are as many bytes as there were. The measure is what is left of the record. After 64 turns the whole record stands there. Assumes nothing.
 use Prim.Native.Nat.{ℕ, _+_, _-_, _≤_}
 use native.Mathlib.Numerals.{add-one}
@@ -8,10 +8,10 @@ use mathlib.Core.Path.{_≡_, refl, ap, ap₂, _∙_}
 use mathlib.Core.List.{List, _++_, append-assoc}
 use lib.ListN.{length, take, drop, set, length-set}
 use lib.Seq.{paste, paste-zero, paste-suc, take-all}
-use Rattle.picture.specs.RowParts.{bytesOf}
-use Rattle.picture.proofs.RowParts.{length-bytes}
-use Rattle.picture.proofs.row.write_row.Statement.{statement}
-use Rattle.picture.proofs.row.write_row.Tie as tie
+use Rattle.row.specs.Record.{bytesOf}
+use Rattle.row.proofs.Record.{length-bytes}
+use Rattle.row.proofs.write_row.Statement.{statement}
+use Rattle.row.proofs.write_row.Tie as tie
 
 abbrev Inv-loop : tie.InvT-loop
 Inv-loop rows₀ at row c₀ rows c =

@@ -1,4 +1,4 @@
--- `picture::row::row_byte` meets its contract. A record's byte is known by the range that it stands in; the tests say which, and an arc is
+-- `row::row_byte` meets its contract. A record's byte is known by the range that it stands in; the tests say which, and an arc is
 -- below 65,536, so that its high byte is a 256th of it. Assumes nothing.
 use Prim.Native.Nat.{ℕ, _-_, _/_, _%_}
 use native.Mathlib.Omega.{arith}
@@ -7,9 +7,9 @@ use mathlib.Core.Path.{_≡_, sym, _∙_}
 use lib.ListN.{length, getD}
 use mir.Syntax.{w16}
 use mir.Val.{Fits}
-use Rattle.picture.proofs.RowParts.{byte-place, byte-low, byte-high, byte-count, byte-zero}
-use Rattle.picture.proofs.row.row_byte.Statement.{statement}
-use Rattle.picture.proofs.row.row_byte.Tie as tie
+use Rattle.row.proofs.Record.{byte-place, byte-low, byte-high, byte-count, byte-zero}
+use Rattle.row.proofs.row_byte.Statement.{statement}
+use Rattle.row.proofs.row_byte.Tie as tie
 
 places-long : (s : tie.Start) → length (s .args .row .places) ≡ 16
 places-long s = search needs

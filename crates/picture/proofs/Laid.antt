@@ -1,0 +1,62 @@
+-- Rows laid one after the other in a book of zeros: the places of row i take the first 16 bytes of its record, and the other 48 stay zero. Assumes nothing.
+use Prim.Native.Nat.{ℕ, _+_, _*_, _-_, _≤_, _<_}
+use native.Mathlib.Omega.{arith}
+use mathlib.Core.Path.{_≡_, refl, sym, ap, _∙_}
+use mathlib.Core.List.{List, [], _++_, append-assoc}
+use lib.ListN.{length, take, drop, getD, replicate, length-append, replicate-append-replicate}
+use lib.Seq.{paste, drop-drop, take-all, take-at}
+use Rattle.words.proofs.Rows.{at-mem}
+use Rattle.records.specs.Sizes.{rowBookSize}
+use Rattle.records.proofs.Flat.{Wide, flat-zeros}
+use Rattle.records.proofs.Replaced.{replaced, replaced-on, from-item, behind}
+use Rattle.picture.specs.Laid.{laid, unused}
+
+-- a record of zeros
+abbrev pub blank : List ℕ → List ℕ
+blank key = replicate 64 0
+
+-- every key has 16 bytes
+abbrev pub Sixteen : List (List ℕ) → Type 0
+Sixteen keys = Wide (λ a. a) 16 keys
+
+module _ (keys : List (List ℕ)) where
+  -- no row is laid yet
+  pub laid-start : length keys ≤ 1000 → replicate rowBookSize 0 ≡ replaced laid blank keys (unused (length keys)) 0
+  laid-start h =
+      let e : 64000 ≡ 64 * length keys + 64 * (1000 - length keys) = omega arith in
+      ap (λ (m : ℕ). replicate m 0) e
+      ∙ sym (replicate-append-replicate (64 * length keys) (64 * (1000 - length keys)) 0)
+      ∙ ap (λ (l : List ℕ). l ++ unused (length keys)) (sym (flat-zeros 64 keys))
+
+  module _ (sixteen : Sixteen keys) where
+    -- a laid record has 64 bytes
+    pub laid-wide : Wide laid 64 keys
+    laid-wide a m = omega (arith, length-append a (replicate 48 0), sixteen a m)
+
+    module _ (z : List ℕ) (i : ℕ) (b : i < length keys) where
+      abbrev Key : List ℕ
+      Key = getD keys i []
+
+      key-sixteen : length Key ≡ 16
+      key-sixteen = sixteen Key (at-mem keys i b)
+
+      blank-wide : Wide blank 64 keys
+      blank-wide a m = refl
+
+      -- row i is laid
+      pub lays : (rows : List ℕ) → rows ≡ replaced laid blank keys z i → paste rows (64 * i) Key 16 ≡ replaced laid blank keys z (i + 1)
+      lays rows e =
+          let Book = replaced laid blank keys z i in
+          let rest : drop (64 * i + 16) Book ≡ replicate 48 0 ++ drop (64 * i + 64) Book
+          = sym (drop-drop 16 (64 * i) Book) ∙ ap (drop 16) (from-item laid blank keys z 64 laid-wide blank-wide i b) ∙ ap (λ (r : List ℕ). replicate 48 0 ++ r) (sym (behind laid blank keys z 64 laid-wide blank-wide i b)) in
+          rw (e, take-all 16 Key (omega (arith, key-sixteen)), rest)
+          (append-assoc (take (64 * i) Book) Key (replicate 48 0 ++ drop (64 * i + 64) Book)
+          ∙ ap (λ (r : List ℕ). take (64 * i) Book ++ r) (sym (append-assoc Key (replicate 48 0) (drop (64 * i + 64) Book)))
+          ∙ replaced-on laid blank keys z 64 laid-wide blank-wide i b)
+
+      -- a laid row is read: its places are the key
+      pub laid-places : (new : List ℕ → List ℕ) → Wide new 64 keys → take 16 (drop (64 * i) (replaced new laid keys z i)) ≡ Key
+      laid-places new wide =
+          ap (take 16) (from-item new laid keys z 64 wide laid-wide i b)
+          ∙ ap (take 16) (append-assoc Key (replicate 48 0) _)
+          ∙ take-at Key _ 16 key-sixteen

@@ -1,0 +1,22 @@
+-- The row of a key: its arcs, and its record. Assumes nothing.
+use Prim.Native.Nat.{ℕ}
+use mathlib.Core.Bool.{cond}
+use mathlib.Core.List.{List, map}
+use lib.ListN.{take}
+use Rattle.words.specs.Places.{live, held}
+use Rattle.words.specs.Picture.{steps}
+use Rattle.row.specs.Record.{bytesOf}
+use Rattle.table.specs.Keys.{rankOf}
+use Rattle.picture.specs.Stepped.{steppedKey}
+
+-- the arc of a key under step s: the rank of the key that it leads to, and 0 if that isn't live
+unfoldable pub keyArc : List ℕ → ℕ → List (List ℕ) → List ℕ → ℕ → ℕ
+keyArc nexts k keys key s = cond (live (take k (steppedKey nexts k key s))) (rankOf (steppedKey nexts k key s) keys) 0
+
+-- its arcs by step
+unfoldable pub keyArcs : List ℕ → ℕ → List (List ℕ) → List ℕ → List ℕ
+keyArcs nexts k keys key = map (keyArc nexts k keys key) steps
+
+-- its record
+abbrev pub keyRow : List ℕ → ℕ → List (List ℕ) → List ℕ → List ℕ
+keyRow nexts k keys key = bytesOf key (keyArcs nexts k keys key) (held (take k key))

@@ -1,0 +1,18 @@
+-- A row book in which each row has its places, and nothing else yet. Assumes nothing.
+use Prim.Native.Nat.{ℕ, _*_, _-_}
+use mathlib.Core.List.{List, _++_}
+use lib.ListN.{length, replicate}
+use Rattle.records.specs.Sizes.{rowRecordSize, mostRows}
+use Rattle.records.specs.Bytes.{flat}
+
+-- a record with its places alone
+abbrev pub laid : List ℕ → List ℕ
+laid key = key ++ replicate 48 0
+
+-- the records behind the first n, all zero
+abbrev pub unused : ℕ → List ℕ
+unused n = replicate (rowRecordSize * (mostRows - n)) 0
+
+-- one such record for each key
+abbrev pub laidBook : List (List ℕ) → List ℕ
+laidBook keys = flat laid keys ++ unused (length keys)
