@@ -8,7 +8,7 @@ use words::STEP_CODES;
 ghost use mathlib.Core.Path.{_≡_};
 ghost use Prim.Native.Nat.{_<_};
 ghost use lib.ListN.{length};
-ghost use Rattle.records.specs.Sizes.{journalBookSize};
+ghost use Rattle.records.specs.Sizes.{journalBookSize, journalRecordSize};
 ghost use Rattle.records.specs.StepBytes.{stepsForm};
 ghost use Rattle.records.specs.JournalBook.{recordForm, wrongRecord, firstWrongRecord};
 
@@ -31,7 +31,7 @@ pub fn steps_form(b: &[u8], most: usize) -> bool
 
 // Whether a record is open and holds steps, or is all zero.
 fn record_form(r: &[u8]) -> bool
-    requires { ⌜ length (now r) ≡ 256 ⌝ }
+    requires { ⌜ length (now r) ≡ journalRecordSize ⌝ }
     ensures { λ f. ⌜ f ≡ recordForm (now (r .entry)) ⌝ }
 {
     if r[0] == 1 {
@@ -43,7 +43,7 @@ fn record_form(r: &[u8]) -> bool
 
 // Whether a record's form is wrong, or it is open after one that isn't.
 fn wrong_record(open_before: bool, r: &[u8]) -> bool
-    requires { ⌜ length (now r) ≡ 256 ⌝ }
+    requires { ⌜ length (now r) ≡ journalRecordSize ⌝ }
     ensures { λ w. ⌜ w ≡ wrongRecord open_before (now (r .entry)) ⌝ }
 {
     if record_form(r) {

@@ -115,7 +115,7 @@ pub(crate) fn first_due(
     after: bool,
     word_record: &[u8],
 ) -> Moved
-    requires { ⌜ (limit ≤ 15) × Falling (tableOf (now rows)) × WordIfAfter after limit (now word_record) ⌝ }
+    requires { ⌜ (limit ≤ longestWord) × Falling (tableOf (now rows)) × WordIfAfter after limit (now word_record) ⌝ }
     ensures to { λ r. ⌜ moved r ≡ take 1 (dueIn (listOf (tableOf (now (rows .entry))) quorum limit) after (now (word_record .entry))) ⌝ }
     ensures fit { λ r. ⌜ Fit limit (r .word) ⌝ }
 {

@@ -24,7 +24,7 @@ pub(crate) struct Page {
 
 // The byte i of a word's record.
 fn record_byte(w: Word, i: usize) -> u8
-    requires { ⌜ (w .len ≤ 15) × (i ≤ 15) ⌝ }
+    requires { ⌜ (w .len ≤ longestWord) × (i ≤ longestWord) ⌝ }
     ensures { λ r. ⌜ r ≡ getD (wordRecord (stepsIn w)) i 0 ⌝ }
 {
     let n = w.len;
@@ -58,7 +58,7 @@ pub(crate) fn write_page(
     first: Moved,
     out: &mut [u8],
 ) -> Page
-    requires { ⌜ (limit ≤ 15) × Fit limit (first .word) × Falling (tableOf (now rows)) × (moved first ≡ take 1 (fromThere (moved first) (listOf (tableOf (now rows)) quorum limit))) ⌝ }
+    requires { ⌜ (limit ≤ longestWord) × Fit limit (first .word) × Falling (tableOf (now rows)) × (moved first ≡ take 1 (fromThere (moved first) (listOf (tableOf (now rows)) quorum limit))) ⌝ }
     ensures count { λ r. ⌜ r .written ≡ length (take (length (now (out .entry)) / wordRecordSize) (fromThere (moved first) (listOf (tableOf (now (rows .entry))) quorum limit))) ⌝ }
     ensures more { λ r. ⌜ r .more ≡ ltb (r .written) (length (fromThere (moved first) (listOf (tableOf (now (rows .entry))) quorum limit))) ⌝ }
     ensures out_after { λ _. ⌜ now (out .exit) ≡ written (take (length (now (out .entry)) / wordRecordSize) (fromThere (moved first) (listOf (tableOf (now (rows .entry))) quorum limit))) (now (out .entry)) ⌝ }

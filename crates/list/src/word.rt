@@ -8,6 +8,8 @@ ghost use Prim.Native.Nat.{_+_, _-_, _≤_, _<_};
 ghost use lib.ListN.{take, getD};
 ghost use Rattle.list.specs.Next.{climbed};
 ghost use Rattle.list.specs.Moving.{stepsIn, moved, Fit};
+ghost use Rattle.records.specs.Sizes.{longestWord};
+ghost use Rattle.words.specs.Limits.{stepCodes};
 
 // The highest step code, which can't be raised.
 const HIGHEST_STEP: u8 = STEP_CODES - 1;
@@ -36,7 +38,7 @@ impl Word {
 
     // The word with step 0 behind it: the first of its extensions.
     pub(crate) fn extend(self) -> Word
-        requires { ⌜ self .len < 15 ⌝ }
+        requires { ⌜ self .len < longestWord ⌝ }
         ensures { λ r. ⌜ (r .len ≡ self .len + 1) × (stepsIn r ≡ stepsIn self ++ (0 ∷ [])) ⌝ }
     {
         let n = self.len;
@@ -47,7 +49,7 @@ impl Word {
 
     // The word with its last step raised by one.
     pub(crate) fn raise(self) -> Word
-        requires { ⌜ (0 < self .len) × (self .len ≤ 15) × (getD (self .steps) (self .len - 1) 0 < 15) ⌝ }
+        requires { ⌜ (0 < self .len) × (self .len ≤ longestWord) × (getD (self .steps) (self .len - 1) 0 + 1 < stepCodes) ⌝ }
         ensures { λ r. ⌜ (r .len ≡ self .len) × (stepsIn r ≡ take (self .len - 1) (self .steps) ++ ((getD (self .steps) (self .len - 1) 0 + 1) ∷ [])) ⌝ }
     {
         let n = self.len;
@@ -71,7 +73,7 @@ impl Word {
 
 // The first word after w that is no extension of it: shortened until its last step can be raised, and raised.
 pub(crate) fn climb(w: Word) -> Moved
-    requires { ⌜ Fit 15 w ⌝ }
+    requires { ⌜ Fit longestWord w ⌝ }
     ensures to { λ r. ⌜ moved r ≡ climbed (stepsIn w) ⌝ }
     ensures fit { λ r. ⌜ Fit (w .len) (r .word) ⌝ }
 {

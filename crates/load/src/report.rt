@@ -10,6 +10,7 @@ ghost use mathlib.Core.Path.{_≡_};
 ghost use Prim.Native.Nat.{_+_, _*_, _≤_};
 ghost use lib.ListN.{length};
 ghost use Rattle.records.specs.Sizes.{wordRecordSize};
+ghost use Rattle.text.specs.Lines.{lineSize};
 
 // The bytes of a page of 1,024 words, and of its text: a line has at most 96 bytes.
 const PAGE: usize = 16384;
@@ -38,7 +39,7 @@ fn print(text: &[u8]) -> bool {
 
 // Prints a line. Answers whether all of it was written.
 pub(crate) fn print_line(line: Line) -> bool
-    requires { ⌜ line .len ≤ 96 ⌝ }
+    requires { ⌜ line .len ≤ lineSize ⌝ }
 {
     let n = line.len;
     let bytes = line.bytes;
@@ -47,8 +48,8 @@ pub(crate) fn print_line(line: Line) -> bool
 
 // Puts a line into the text from a byte on. Answers where it ends.
 fn put_line(text: &mut [u8], at: usize, line: Line) -> usize
-    requires { ⌜ (line .len ≤ 96) × (at + 96 ≤ length (now text)) ⌝ }
-    ensures { λ r. ⌜ r ≤ at + 96 ⌝ }
+    requires { ⌜ (line .len ≤ lineSize) × (at + lineSize ≤ length (now text)) ⌝ }
+    ensures { λ r. ⌜ r ≤ at + lineSize ⌝ }
 {
     let n = line.len;
     let bytes = line.bytes;
@@ -63,7 +64,7 @@ fn put_line(text: &mut [u8], at: usize, line: Line) -> usize
 // The line of the word in a word record.
 fn record_line(rows: &[u8], word_record: &[u8]) -> Line
     requires { ⌜ length (now word_record) ≡ wordRecordSize ⌝ }
-    ensures { λ r. ⌜ r .len ≤ 96 ⌝ }
+    ensures { λ r. ⌜ r .len ≤ lineSize ⌝ }
 {
     let n = word_record[0] as usize;
     if LONGEST_WORD < n {

@@ -15,11 +15,12 @@ ghost use Rattle.records.specs.Sizes.{mostRows};
 ghost use Rattle.records.specs.Bytes.{records};
 ghost use Rattle.picture.specs.Nexts.{nextsOfAll};
 ghost use Rattle.picture.specs.KeyRow.{keyArc, keyArcs};
+ghost use Rattle.table.specs.Keys.{keySize};
 
 // The arc of a key under step s: the row number of the state that it leads to, and 0 if that isn't live.
 fn arc_of(nexts: &[u8], k: usize, t: &[u8], n: usize, key: [u8; 16], s: u8) -> u16
-    requires { ⌜ (length (now nexts) ≡ nextsOfAll) × (k ≤ mostJournals) × (s < stepCodes) × (16 * n ≤ length (now t)) × (n ≤ mostRows) × Ascending (records 16 n (now t)) ⌝ }
-    ensures { λ r. ⌜ r ≡ keyArc (now (nexts .entry)) k (records 16 n (now (t .entry))) key s ⌝ }
+    requires { ⌜ (length (now nexts) ≡ nextsOfAll) × (k ≤ mostJournals) × (s < stepCodes) × (keySize * n ≤ length (now t)) × (n ≤ mostRows) × Ascending (records keySize n (now t)) ⌝ }
+    ensures { λ r. ⌜ r ≡ keyArc (now (nexts .entry)) k (records keySize n (now (t .entry))) key s ⌝ }
 {
     let to = step_key(nexts, k, key, s);
     if is_live(k, to) {
@@ -30,8 +31,8 @@ fn arc_of(nexts: &[u8], k: usize, t: &[u8], n: usize, key: [u8; 16], s: u8) -> u
 
 // A row with its arcs and its count, whatever they were.
 pub fn step_row(nexts: &[u8], k: usize, t: &[u8], n: usize, row: Row) -> Row
-    requires { ⌜ (length (now nexts) ≡ nextsOfAll) × (k ≤ mostJournals) × (16 * n ≤ length (now t)) × (n ≤ mostRows) × Ascending (records 16 n (now t)) ⌝ }
-    ensures { λ y. ⌜ (y .places ≡ row .places) × (y .arcs ≡ keyArcs (now (nexts .entry)) k (records 16 n (now (t .entry))) (row .places)) × (y .count ≡ held (take k (row .places))) ⌝ }
+    requires { ⌜ (length (now nexts) ≡ nextsOfAll) × (k ≤ mostJournals) × (keySize * n ≤ length (now t)) × (n ≤ mostRows) × Ascending (records keySize n (now t)) ⌝ }
+    ensures { λ y. ⌜ (y .places ≡ row .places) × (y .arcs ≡ keyArcs (now (nexts .entry)) k (records keySize n (now (t .entry))) (row .places)) × (y .count ≡ held (take k (row .places))) ⌝ }
 {
     let places = row.places;
     let mut arcs = row.arcs;

@@ -16,11 +16,12 @@ ghost use Rattle.records.specs.Sizes.{rowBookSize, mostRows};
 ghost use Rattle.picture.specs.Nexts.{nextsOfAll, Tabled};
 ghost use Rattle.picture.specs.Found.{tableSize, Found};
 ghost use Rattle.picture.specs.Laid.{laidBook};
+ghost use Rattle.table.specs.Keys.{keySize};
 
 // Lays a record for each of the n states, with its places and nothing else, and zeros behind them.
 fn lay_rows(t: &[u8], n: usize, rows: &mut [u8])
-    requires { ⌜ (16 * n ≤ length (now t)) × (n ≤ mostRows) × (length (now rows) ≡ rowBookSize) ⌝ }
-    ensures { λ _. ⌜ now (rows .exit) ≡ laidBook (records 16 n (now (t .entry))) ⌝ }
+    requires { ⌜ (keySize * n ≤ length (now t)) × (n ≤ mostRows) × (length (now rows) ≡ rowBookSize) ⌝ }
+    ensures { λ _. ⌜ now (rows .exit) ≡ laidBook (records keySize n (now (t .entry))) ⌝ }
 {
     fill::zero_all(rows);
     let mut r = 0;

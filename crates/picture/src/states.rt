@@ -18,15 +18,16 @@ ghost use Rattle.records.specs.Sizes.{mostRows};
 ghost use Rattle.picture.specs.Nexts.{nextsOfAll, Tabled};
 ghost use Rattle.picture.specs.Stepped.{steppedKey, withKey};
 ghost use Rattle.picture.specs.Found.{tableSize, Sweeping, Swept, Found};
+ghost use Rattle.table.specs.Keys.{keySize};
 
 // The bytes of the table: room for one key more than there are rows.
 pub const TABLE: usize = 16016;
 
 // Puts the state that the step s leads to from a key into the table, if it is live. Returns how many keys there are then.
 fn add_step(nexts: &[u8], k: usize, t: &mut [u8], n: usize, key: [u8; 16], s: u8) -> usize
-    requires { ⌜ (length (now nexts) ≡ nextsOfAll) × (k ≤ mostJournals) × (s < stepCodes) × (16 * n + 16 ≤ length (now t)) × (n ≤ mostRows) × Ascending (records 16 n (now t)) ⌝ }
-    ensures after { λ r. ⌜ records 16 r (now (t .exit)) ≡ withKey k (steppedKey (now (nexts .entry)) k key s) (records 16 n (now (t .entry))) ⌝ }
-    ensures many { λ r. ⌜ r ≡ length (withKey k (steppedKey (now (nexts .entry)) k key s) (records 16 n (now (t .entry)))) ⌝ }
+    requires { ⌜ (length (now nexts) ≡ nextsOfAll) × (k ≤ mostJournals) × (s < stepCodes) × (keySize * n + keySize ≤ length (now t)) × (n ≤ mostRows) × Ascending (records keySize n (now t)) ⌝ }
+    ensures after { λ r. ⌜ records keySize r (now (t .exit)) ≡ withKey k (steppedKey (now (nexts .entry)) k key s) (records keySize n (now (t .entry))) ⌝ }
+    ensures many { λ r. ⌜ r ≡ length (withKey k (steppedKey (now (nexts .entry)) k key s) (records keySize n (now (t .entry)))) ⌝ }
 {
     let to = step_key(nexts, k, key, s);
     if is_live(k, to) {

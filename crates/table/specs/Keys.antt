@@ -3,7 +3,12 @@ use Prim.Native.Nat.{ℕ, zero, suc, _+_, _-_}
 use mathlib.Core.Bool.{cond}
 use mathlib.Core.List.{List, [], _∷_, _++_}
 use lib.ListN.{take, drop}
+use Rattle.words.specs.Limits.{mostJournals}
 use Rattle.words.specs.Order.{before}
+
+-- a key's bytes: a place for each journal that there can be
+abbrev pub keySize : ℕ
+keySize = mostJournals
 
 -- which of two keys comes first: 0 the first, 2 the second, 1 if they are equal
 unfoldable pub order : List ℕ → List ℕ → ℕ
@@ -14,6 +19,6 @@ unfoldable pub rankOf : List ℕ → List (List ℕ) → ℕ
 rankOf key [] = zero
 rankOf key (x ∷ l) = cond (before x key) (suc (rankOf key l)) zero
 
--- the bytes t, where those from a up to e are moved 16 further and the 16 from a on stay
+-- the bytes t, where those from a up to e are moved one key further and the key from a on stays
 unfoldable pub shifted : List ℕ → ℕ → ℕ → List ℕ
-shifted t a e = take (a + 16) t ++ (take (e - a) (drop a t) ++ drop (e + 16) t)
+shifted t a e = take (a + keySize) t ++ (take (e - a) (drop a t) ++ drop (e + keySize) t)

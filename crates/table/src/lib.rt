@@ -9,7 +9,7 @@ ghost use Rattle.records.specs.Sizes.{mostRows};
 ghost use Rattle.words.specs.Order.{Ascending};
 ghost use Rattle.words.specs.Picture.{insert};
 ghost use Rattle.records.specs.Bytes.{records};
-ghost use Rattle.table.specs.Keys.{order, rankOf, shifted};
+ghost use Rattle.table.specs.Keys.{order, rankOf, shifted, keySize};
 
 // The bytes of a key.
 pub const KEY: usize = 16;
@@ -25,8 +25,8 @@ pub const SECOND: u8 = 2;
 
 // The key that begins at a byte.
 pub fn key_at(t: &[u8], at: usize) -> [u8; 16]
-    requires { ⌜ at + 16 ≤ length (now t) ⌝ }
-    ensures { λ r. ⌜ r ≡ take 16 (drop at (now (t .entry))) ⌝ }
+    requires { ⌜ at + keySize ≤ length (now t) ⌝ }
+    ensures { λ r. ⌜ r ≡ take keySize (drop at (now (t .entry))) ⌝ }
 {
     let mut key = [0u8; KEY];
     let mut i = 0;
@@ -56,8 +56,8 @@ pub fn compare(a: [u8; 16], b: [u8; 16]) -> u8
 
 // How many of the n keys come before a key, found by halving.
 pub fn rank(t: &[u8], n: usize, key: [u8; 16]) -> usize
-    requires { ⌜ (16 * n ≤ length (now t)) × (n ≤ 1001) × Ascending (records 16 n (now t)) ⌝ }
-    ensures { λ r. ⌜ r ≡ rankOf key (records 16 n (now (t .entry))) ⌝ }
+    requires { ⌜ (keySize * n ≤ length (now t)) × (n ≤ mostRows + 1) × Ascending (records keySize n (now t)) ⌝ }
+    ensures { λ r. ⌜ r ≡ rankOf key (records keySize n (now (t .entry))) ⌝ }
 {
     let mut low = 0;
     let mut high = n;
@@ -75,7 +75,7 @@ pub fn rank(t: &[u8], n: usize, key: [u8; 16]) -> usize
 
 // Moves the bytes from a up to e one key further.
 fn shift(t: &mut [u8], a: usize, e: usize)
-    requires { ⌜ (a ≤ e) × (e + 16 ≤ length (now t)) ⌝ }
+    requires { ⌜ (a ≤ e) × (e + keySize ≤ length (now t)) ⌝ }
     ensures { λ _. ⌜ now (t .exit) ≡ shifted (now (t .entry)) a e ⌝ }
 {
     let mut i = e;
@@ -87,8 +87,8 @@ fn shift(t: &mut [u8], a: usize, e: usize)
 
 // Writes a key from a byte on.
 pub fn put(t: &mut [u8], at: usize, key: [u8; 16])
-    requires { ⌜ at + 16 ≤ length (now t) ⌝ }
-    ensures { λ _. ⌜ now (t .exit) ≡ paste (now (t .entry)) at key 16 ⌝ }
+    requires { ⌜ at + keySize ≤ length (now t) ⌝ }
+    ensures { λ _. ⌜ now (t .exit) ≡ paste (now (t .entry)) at key keySize ⌝ }
 {
     let mut i = 0;
     while i < KEY {
@@ -99,8 +99,8 @@ pub fn put(t: &mut [u8], at: usize, key: [u8; 16])
 
 // Puts a key behind the first p of the n keys.
 fn open_at(t: &mut [u8], n: usize, p: usize, key: [u8; 16])
-    requires { ⌜ (16 * n + 16 ≤ length (now t)) × (n ≤ mostRows) × (p ≤ n) ⌝ }
-    ensures { λ _. ⌜ records 16 (n + 1) (now (t .exit)) ≡ take p (records 16 n (now (t .entry))) ++ key ∷ drop p (records 16 n (now (t .entry))) ⌝ }
+    requires { ⌜ (keySize * n + keySize ≤ length (now t)) × (n ≤ mostRows) × (p ≤ n) ⌝ }
+    ensures { λ _. ⌜ records keySize (n + 1) (now (t .exit)) ≡ take p (records keySize n (now (t .entry))) ++ key ∷ drop p (records keySize n (now (t .entry))) ⌝ }
 {
     shift(t, KEY * p, KEY * n);
     put(t, KEY * p, key);
@@ -108,9 +108,9 @@ fn open_at(t: &mut [u8], n: usize, p: usize, key: [u8; 16])
 
 // Puts a key among the n keys, in order, unless it is there. Returns how many keys there are then.
 pub fn insert(t: &mut [u8], n: usize, key: [u8; 16]) -> usize
-    requires { ⌜ (16 * n + 16 ≤ length (now t)) × (n ≤ mostRows) × Ascending (records 16 n (now t)) ⌝ }
-    ensures after { λ r. ⌜ records 16 r (now (t .exit)) ≡ insert key (records 16 n (now (t .entry))) ⌝ }
-    ensures many { λ r. ⌜ r ≡ length (insert key (records 16 n (now (t .entry)))) ⌝ }
+    requires { ⌜ (keySize * n + keySize ≤ length (now t)) × (n ≤ mostRows) × Ascending (records keySize n (now t)) ⌝ }
+    ensures after { λ r. ⌜ records keySize r (now (t .exit)) ≡ insert key (records keySize n (now (t .entry))) ⌝ }
+    ensures many { λ r. ⌜ r ≡ length (insert key (records keySize n (now (t .entry)))) ⌝ }
 {
     let p = rank(t, n, key);
     if p < n {

@@ -8,7 +8,8 @@ ghost use Prim.Native.Nat.{_+_, _≤_, _<_};
 ghost use lib.ListN.{length};
 ghost use lib.Dec.{leb};
 ghost use Rattle.text.specs.Text.{decimal, spaced, firstLine, wordLine, lastLine, refusedEntryLine, refusedAskLine};
-ghost use Rattle.text.specs.Lines.{lineOf, Longer};
+ghost use Rattle.text.specs.Lines.{lineOf, Longer, lineSize};
+ghost use Rattle.records.specs.Sizes.{longestWord};
 
 const SPACE: u8 = 32;
 
@@ -36,7 +37,7 @@ impl Line {
 
     // The line with one byte more.
     fn put(self, byte: u8) -> Line
-        requires { ⌜ self .len < 96 ⌝ }
+        requires { ⌜ self .len < lineSize ⌝ }
         ensures { λ r. ⌜ Longer self (byte ∷ []) r ⌝ }
     {
         let n = self.len;
@@ -47,7 +48,7 @@ impl Line {
 
     // The line with a name behind it.
     fn name(self, name: &[u8]) -> Line
-        requires { ⌜ self .len + length (now name) ≤ 96 ⌝ }
+        requires { ⌜ self .len + length (now name) ≤ lineSize ⌝ }
         ensures { λ r. ⌜ Longer self (now (name .entry)) r ⌝ }
     {
         let mut line = self;
@@ -61,7 +62,7 @@ impl Line {
 
     // The line with a number in decimal behind it.
     fn number(self, x: usize) -> Line
-        requires { ⌜ self .len + length (decimal x) ≤ 96 ⌝ }
+        requires { ⌜ self .len + length (decimal x) ≤ lineSize ⌝ }
         ensures { λ r. ⌜ Longer self (decimal x) r ⌝ }
     {
         if x < 10 {
@@ -73,7 +74,7 @@ impl Line {
 
     // The line with a space and a number in decimal behind it.
     fn spaced(self, x: usize) -> Line
-        requires { ⌜ self .len + length (spaced (x ∷ [])) ≤ 96 ⌝ }
+        requires { ⌜ self .len + length (spaced (x ∷ [])) ≤ lineSize ⌝ }
         ensures { λ r. ⌜ Longer self (spaced (x ∷ [])) r ⌝ }
     {
         self.put(SPACE).number(x)
@@ -83,7 +84,7 @@ impl Line {
 // First line: how many journals there are, and how many live rows.
 pub fn first_line(k: usize, rows: usize) -> Line
     ensures { λ r. ⌜ r ≡ lineOf (firstLine k rows) ⌝ }
-    ensures fits { λ r. ⌜ r .len ≤ 96 ⌝ }
+    ensures fits { λ r. ⌜ r .len ≤ lineSize ⌝ }
 {
     Line::empty()
         .name(b"texts")
@@ -95,8 +96,8 @@ pub fn first_line(k: usize, rows: usize) -> Line
 
 // A word's line: its length, its count, its steps. A word longer than any that is listed has no line.
 pub fn word_line(count: u8, word: &[u8]) -> Line
-    ensures { λ r. ⌜ r ≡ lineOf (cond (leb (length (now (word .entry))) 15) (wordLine count (now (word .entry))) []) ⌝ }
-    ensures fits { λ r. ⌜ r .len ≤ 96 ⌝ }
+    ensures { λ r. ⌜ r ≡ lineOf (cond (leb (length (now (word .entry))) longestWord) (wordLine count (now (word .entry))) []) ⌝ }
+    ensures fits { λ r. ⌜ r .len ≤ lineSize ⌝ }
 {
     if LONGEST_WORD < word.len() {
         return Line::empty();
@@ -113,7 +114,7 @@ pub fn word_line(count: u8, word: &[u8]) -> Line
 // Last line: the number of words.
 pub fn last_line(words: usize) -> Line
     ensures { λ r. ⌜ r ≡ lineOf (lastLine words) ⌝ }
-    ensures fits { λ r. ⌜ r .len ≤ 96 ⌝ }
+    ensures fits { λ r. ⌜ r .len ≤ lineSize ⌝ }
 {
     Line::empty().name(b"end").spaced(words).put(LINE_END)
 }
@@ -121,7 +122,7 @@ pub fn last_line(words: usize) -> Line
 // The line of a refused entry: its number, and which entry it is, from 0.
 pub fn refused_entry_line(number: u8, entry: usize) -> Line
     ensures { λ r. ⌜ r ≡ lineOf (refusedEntryLine number entry) ⌝ }
-    ensures fits { λ r. ⌜ r .len ≤ 96 ⌝ }
+    ensures fits { λ r. ⌜ r .len ≤ lineSize ⌝ }
 {
     Line::empty()
         .name(b"refused")
@@ -134,7 +135,7 @@ pub fn refused_entry_line(number: u8, entry: usize) -> Line
 // The line of a refused ask.
 pub fn refused_ask_line(number: u8) -> Line
     ensures { λ r. ⌜ r ≡ lineOf (refusedAskLine number) ⌝ }
-    ensures fits { λ r. ⌜ r .len ≤ 96 ⌝ }
+    ensures fits { λ r. ⌜ r .len ≤ lineSize ⌝ }
 {
     Line::empty()
         .name(b"refused")
