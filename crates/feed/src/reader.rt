@@ -3,6 +3,7 @@
 ghost use mathlib.Core.Path.{_≡_};
 ghost use Rattle.feed.specs.Reading.{readAt};
 
+// The bytes read, and where the next entry stands in them.
 pub(crate) struct Reader<'a> {
     pub bytes: &'a [u8],
     pub at: usize,

@@ -19,7 +19,7 @@ fn find(steps: &[u8], s: u8) -> usize
 }
 
 // Whether a word is in a journal: the empty word is, and another is when its first step is found and the rest is in what follows.
-pub fn is_in(word: &[u8], journal: &[u8]) -> bool
+pub(crate) fn is_in(word: &[u8], journal: &[u8]) -> bool
     ensures { λ r. ⌜ r ≡ isIn (now (word .entry)) (now (journal .entry)) ⌝ }
 {
     if word.len() == 0 {

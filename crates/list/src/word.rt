@@ -14,6 +14,7 @@ ghost use Rattle.words.specs.Limits.{stepCodes};
 // The highest step code, which can't be raised.
 const HIGHEST_STEP: u8 = STEP_CODES - 1;
 
+// A word of up to 15 steps: those before `len` count.
 pub(crate) struct Word {
     pub steps: [u8; LONGEST_WORD],
     pub len: usize,

@@ -53,6 +53,7 @@ fn answer(journals: &[u8], rows: &[u8]) {
     print_list(journals, rows, k, ask);
 }
 
+// Loads the entries into books with no journal, and answers the ask if none was refused.
 fn main() {
     let mut journals = [0u8; JOURNAL_BOOK];
     let mut rows = [0u8; ROW_BOOK];

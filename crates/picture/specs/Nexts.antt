@@ -5,16 +5,16 @@ use mathlib.Core.Bool.{cond}
 use mathlib.Core.List.{List, []}
 use lib.ListN.{length, getD}
 use lib.Dec.{ltb, eqb}
-use Rattle.words.specs.Limits.{stepCodes, lost}
+use Rattle.words.specs.Limits.{stepCodes, longestJournal, mostJournals, lost}
 use Rattle.words.specs.Places.{next}
 
 -- the entries of one journal: 201 places by 16 steps
 abbrev pub nextsOfOne : ℕ
-nextsOfOne = 3216
+nextsOfOne = (longestJournal + 1) * stepCodes
 
 -- and those of 16 journals
 abbrev pub nextsOfAll : ℕ
-nextsOfAll = 51456
+nextsOfAll = mostJournals * nextsOfOne
 
 -- entry x of the journal j, by the entry one place further on
 unfoldable pub nextEntry : List ℕ → ℕ → ℕ → ℕ

@@ -30,7 +30,7 @@ fn arc_of(nexts: &[u8], k: usize, t: &[u8], n: usize, key: [u8; 16], s: u8) -> u
 }
 
 // A row with its arcs and its count, whatever they were.
-pub fn step_row(nexts: &[u8], k: usize, t: &[u8], n: usize, row: Row) -> Row
+pub(crate) fn step_row(nexts: &[u8], k: usize, t: &[u8], n: usize, row: Row) -> Row
     requires { ⌜ (length (now nexts) ≡ nextsOfAll) × (k ≤ mostJournals) × (keySize * n ≤ length (now t)) × (n ≤ mostRows) × Ascending (records keySize n (now t)) ⌝ }
     ensures { λ y. ⌜ (y .places ≡ row .places) × (y .arcs ≡ keyArcs (now (nexts .entry)) k (records keySize n (now (t .entry))) (row .places)) × (y .count ≡ held (take k (row .places))) ⌝ }
 {

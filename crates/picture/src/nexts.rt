@@ -1,6 +1,9 @@
 // The table of next places, so that stepping a place reads one byte and no journal.
 
+use words::JOURNALS;
+use words::LONGEST_JOURNAL;
 use words::LOST;
+use words::STEP_CODES;
 ghost use mathlib.Core.Path.{_≡_};
 ghost use mathlib.Core.Bool.{true, cond};
 ghost use Prim.Native.Nat.{_+_, _≤_, _<_};
@@ -11,13 +14,13 @@ ghost use Rattle.words.specs.Limits.{stepCodes, longestJournal, lost};
 ghost use Rattle.picture.specs.Nexts.{nextsOfOne, nextsOfAll, nextEntry, NextsOf, Tabled};
 
 // The entries of one journal: 201 places by 16 steps.
-pub const NEXTS: usize = 3216;
+pub(crate) const NEXTS: usize = (LONGEST_JOURNAL + 1) * STEPS;
 
 // The entries of all journals.
-pub const ALL_NEXTS: usize = 51456;
+pub(crate) const ALL_NEXTS: usize = JOURNALS * NEXTS;
 
 // The entries of one place, one for each step.
-pub const STEPS: usize = 16;
+pub(crate) const STEPS: usize = STEP_CODES as usize;
 
 // The entry one place further on, or lost behind the last.
 fn further_on(entries: &[u8], x: usize) -> u8
@@ -59,7 +62,7 @@ fn fill_nexts(steps: &[u8], entries: &mut [u8])
 }
 
 // Fills in the table of all journals.
-pub fn tabulate(journals: &[u8], nexts: &mut [u8])
+pub(crate) fn tabulate(journals: &[u8], nexts: &mut [u8])
     requires { ⌜ (journalForm (now journals) ≡ true) × (length (now nexts) ≡ nextsOfAll) ⌝ }
     ensures { λ _. ⌜ Tabled (journalsOf (now (journals .entry))) (now (nexts .exit)) ⌝ }
 {

@@ -33,7 +33,7 @@ fn lay_rows(t: &[u8], n: usize, rows: &mut [u8])
 }
 
 // Draws the rows of the n states, and zeros behind them.
-pub fn draw_rows(journals: &[u8], nexts: &[u8], t: &[u8], n: usize, rows: &mut [u8])
+pub(crate) fn draw_rows(journals: &[u8], nexts: &[u8], t: &[u8], n: usize, rows: &mut [u8])
     requires { ⌜ (journalForm (now journals) ≡ true) × (length (now nexts) ≡ nextsOfAll) × Tabled (journalsOf (now journals)) (now nexts) × (length (now t) ≡ tableSize) × (n ≤ mostRows) × Found (journalsOf (now journals)) n (now t) × (length (now rows) ≡ rowBookSize) ⌝ }
     ensures { λ _. ⌜ now (rows .exit) ≡ rowBook (journalsOf (now (journals .entry))) ⌝ }
 {

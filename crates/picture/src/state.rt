@@ -25,7 +25,7 @@ fn next_at(nexts: &[u8], i: usize, p: u8, s: u8) -> u8
 }
 
 // The places that the step s leads to, as a new array; 0 for a journal that isn't open.
-pub fn step_key(nexts: &[u8], k: usize, key: [u8; 16], s: u8) -> [u8; 16]
+pub(crate) fn step_key(nexts: &[u8], k: usize, key: [u8; 16], s: u8) -> [u8; 16]
     requires { ⌜ (length (now nexts) ≡ nextsOfAll) × (k ≤ mostJournals) × (s < stepCodes) ⌝ }
     ensures { λ r. ⌜ r ≡ steppedKey (now (nexts .entry)) k key s ⌝ }
 {
@@ -39,7 +39,7 @@ pub fn step_key(nexts: &[u8], k: usize, key: [u8; 16], s: u8) -> [u8; 16]
 }
 
 // Whether one of the first k places isn't lost.
-pub fn is_live(k: usize, key: [u8; 16]) -> bool
+pub(crate) fn is_live(k: usize, key: [u8; 16]) -> bool
     requires { ⌜ k ≤ mostJournals ⌝ }
     ensures { λ r. ⌜ r ≡ live (take k key) ⌝ }
 {
@@ -54,7 +54,7 @@ pub fn is_live(k: usize, key: [u8; 16]) -> bool
 }
 
 // How many of the first k places aren't lost.
-pub fn held_in(k: usize, key: [u8; 16]) -> u8
+pub(crate) fn held_in(k: usize, key: [u8; 16]) -> u8
     requires { ⌜ k ≤ mostJournals ⌝ }
     ensures { λ r. ⌜ r ≡ held (take k key) ⌝ }
 {

@@ -21,7 +21,7 @@ ghost use Rattle.picture.specs.Found.{tableSize, Sweeping, Swept, Found}
 ghost use Rattle.table.specs.Keys.{keySize};
 
 // The bytes of the table: room for one key more than there are rows.
-pub const TABLE: usize = 16016;
+pub(crate) const TABLE: usize = KEY * (ROWS + 1);
 
 // Puts the state that the step s leads to from a key into the table, if it is live. Returns how many keys there are then.
 fn add_step(nexts: &[u8], k: usize, t: &mut [u8], n: usize, key: [u8; 16], s: u8) -> usize
@@ -56,7 +56,7 @@ fn grow_row(journals: &[u8], nexts: &[u8], t: &mut [u8], n: usize, i: usize) -> 
 }
 
 // Finds all live states and puts their keys into the table, ascending. Returns how many there are, 1,001 if they are too many.
-pub fn find_states(journals: &[u8], nexts: &[u8], t: &mut [u8]) -> usize
+pub(crate) fn find_states(journals: &[u8], nexts: &[u8], t: &mut [u8]) -> usize
     requires { ⌜ (journalForm (now journals) ≡ true) × (length (now nexts) ≡ nextsOfAll) × Tabled (journalsOf (now journals)) (now nexts) × (length (now t) ≡ tableSize) ⌝ }
     ensures { λ r. ⌜ Found (journalsOf (now (journals .entry))) r (now (t .exit)) ⌝ }
 {

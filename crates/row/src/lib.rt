@@ -13,6 +13,7 @@ use records::COUNT;
 use records::ROW_RECORD;
 use words::STEP_CODES;
 
+// A row: sixteen places, sixteen arcs by step, and the count.
 pub struct Row {
     pub places: [u8; 16],
     pub arcs: [u16; 16],

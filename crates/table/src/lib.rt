@@ -1,5 +1,6 @@
 // A sorted table of 16-byte keys in memory that the caller lends: the keys stand one after the other, ascending, none
 // twice. A key's place is found by halving.
+use words::JOURNALS;
 ghost use mathlib.Core.Path.{_≡_};
 ghost use mathlib.Core.List.{_∷_, _++_};
 ghost use Prim.Native.Nat.{_+_, _*_, _≤_};
@@ -11,8 +12,8 @@ ghost use Rattle.words.specs.Picture.{insert};
 ghost use Rattle.records.specs.Bytes.{records};
 ghost use Rattle.table.specs.Keys.{order, rankOf, shifted, keySize};
 
-// The bytes of a key.
-pub const KEY: usize = 16;
+// The bytes of a key: a place for each journal that there can be.
+pub const KEY: usize = JOURNALS;
 
 // The answer of `compare` where its first key comes first.
 pub const FIRST: u8 = 0;

@@ -29,6 +29,7 @@ fn run(script: &[u8], journals: &mut [u8], rows: &mut [u8]) -> bool {
     true
 }
 
+// Runs the script on standard input, and says so if it is broken.
 fn main() {
     let mut script = [0u8; LONGEST];
     let mut journals = [0u8; JOURNAL_ROOM];

@@ -81,6 +81,7 @@ fn run(script: &[u8], journals: &mut [u8], rows: &mut [u8], output: &mut [u8]) -
     true
 }
 
+// Runs the script on standard input, and says so if it is broken.
 fn main() {
     let mut script = [0u8; LONGEST];
     let mut journals = [0u8; JOURNAL_ROOM];
