@@ -14,12 +14,12 @@ use Rattle.records.specs.RowBook.{rowBook, countAt}
 use Rattle.words.specs.Picture.{rowOf, picture}
 use Rattle.words.specs.Places.{state, step, live}
 use Rattle.words.specs.Words.{IsWord, AreJournals, count}
-use Rattle.records.proofs.RowBytes.{length-book, count-byte, arc-bytes}
+use Rattle.records.proofs.RowBytes.{length-book, arc-bytes, count-least, count-most, row-counts}
 use Rattle.records.proofs.Tests.{word-below}
 use Rattle.words.proofs.Falls.{dead-stays}
 use Rattle.words.proofs.Members.{state-snoc, picture-members, picture-ascending}
-use Rattle.words.proofs.Place.{Short, short, held-count, live-held, dead-held, held-most}
-use Rattle.words.proofs.Rows.{row-is, row-width, step-row, arc-after, start-mem, start-zero}
+use Rattle.words.proofs.Place.{Short, short, held-count, dead-held}
+use Rattle.words.proofs.Rows.{row-is, step-row, arc-after, start-mem, start-zero}
 use Rattle.words.proofs.Test.{test}
 
 -- an arc is taken that rises, is a row's number, and ends at a count of 1 to 16
@@ -33,20 +33,13 @@ abbrev ending : List (List ℕ) → List ℕ → Walk
 ending js a = cond (live a) (at-row (rowOf a 0 (picture js))) no-row
 
 module _ (js : List (List ℕ)) (h : Short js) (few : length js ≤ 16) (fits : length (picture js) ≤ 1000) where
-  -- a row's count byte is 1 to 16
-  count-most : (a : List ℕ) → List·Memᴰ a (picture js) → countAt (rowBook js) (rowOf a 0 (picture js)) ≤ 16
-  count-most a m = omega (arith, count-byte js h few a m, held-most a, row-width js h a m)
-
-  count-least : (a : List ℕ) → List·Memᴰ a (picture js) → 1 ≤ countAt (rowBook js) (rowOf a 0 (picture js))
-  count-least a m = omega (arith, count-byte js h few a m, live-held a (picture-members js h a .0 m .0))
-
   -- the arc of a row to a live state is taken
   taken : (a : List ℕ) → List·Memᴰ a (picture js) → (s : ℕ) → s < 16 → live (step js a s) ≡ true → (rest : Walk)
       → along (rowBook js) (rowOf a 0 (picture js)) (rowOf (step js a s) 0 (picture js)) rest ≡ rest
   taken a m s b t rest =
       let i = step-row js h a m s b t in
       along-on (rowBook js) (rowOf a 0 (picture js)) (rowOf (step js a s) 0 (picture js)) rest (rw t at (arc-after js h a m s b t))
-      (omega (arith, row-is (step js a s) (picture js) (picture-ascending js) i)) (count-least (step js a s) i) (count-most (step js a s) i)
+      (omega (arith, row-is (step js a s) (picture js) (picture-ascending js) i)) (count-least js h few (step js a s) i) (count-most js h few (step js a s) i)
 
   -- from the row of v's state the walk along w ends where the walk to the state of both ends
   from-ends : (w v : List ℕ) → IsWord w → List·Memᴰ (state js v) (picture js)
@@ -72,8 +65,8 @@ ends (j ∷ js) h few fits w k =
     let a : List ℕ = state (j ∷ js) [] in
     let m : List·Memᴰ a (picture (j ∷ js)) = start-mem j js h in
     let z : rowOf a 0 (picture (j ∷ js)) ≡ 0 = start-zero j js h in
-    let most : countAt b 0 ≤ 16 = rw z at (count-most (j ∷ js) h few fits a m) in
-    let least : 1 ≤ countAt b 0 = rw z at (count-least (j ∷ js) h few fits a m) in
+    let most : countAt b 0 ≤ 16 = rw z at (count-most (j ∷ js) h few a m) in
+    let least : 1 ≤ countAt b 0 = rw z at (count-least (j ∷ js) h few a m) in
     rw (le-ltb 16 (countAt b 0) most, ne-eqb (countAt b 0) 0 (omega arith)) (rw z at (from-ends (j ∷ js) h few fits w [] k m))
 
 module _ (js : List (List ℕ)) (are : AreJournals js) (fits : length (picture js) ≤ 1000) (w : List ℕ) (k : IsWord w) where
@@ -92,7 +85,7 @@ module _ (js : List (List ℕ)) (are : AreJournals js) (fits : length (picture j
   pub table-counts : tableCountCall (rowBook js) w ≡ counted 0 (count js w)
   unfolding tableCountCall
   table-counts =
-      rw (eq-eqb (length (rowBook js)) 64000 (length-book js brief (are .few) fits), word-below w k, ← held-count js w brief)
+      rw (eq-eqb (length (rowBook js)) 64000 (length-book js brief (are .few) fits), word-below w k)
       (test (live (state js w))
-      (λ t. rw (walk-ends t, count-byte js brief (are .few) (state js w) (picture-members js brief (state js w) .1 (t, (w, k, refl)))))
-      (λ f. rw (walk-stops f, dead-held (state js w) f)))
+      (λ t. rw (walk-ends t, row-counts js are w k t))
+      (λ f. rw (walk-stops f, ← held-count js w brief, dead-held (state js w) f)))

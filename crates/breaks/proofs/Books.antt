@@ -14,7 +14,7 @@ use Rattle.books.specs.RowRecord.{rowRecordNumberCall}
 use Rattle.walk.specs.Walk.{along, walkFrom, walk}
 use Rattle.books.specs.TableCount.{tableCountCall}
 use Rattle.records.specs.JournalBook.{firstWrongRecord, journalForm, journalsOf, journalRecord, journalBook}
-use Rattle.records.specs.RowBook.{rowBook}
+use Rattle.records.specs.RowBook.{rowBook, rowRecord}
 use Rattle.records.specs.Sound.{sound}
 use Rattle.records.specs.StepBytes.{stepBytes}
 use Rattle.records.specs.WordRecord.{wordRecord}
@@ -51,16 +51,16 @@ unfolding openCall sound journalForm firstWrongRecord journalsOf rowBook picture
 open-accepts = refl
 
 append-accepts : appendCall (journalBook single) (rowBook single) 1 .number ≡ 0
-unfolding appendCall sound journalForm firstWrongRecord journalsOf journalBook journalRecord stepBytes rowBook picture appended
+unfolding appendCall sound journalForm firstWrongRecord journalsOf journalBook journalRecord stepBytes rowBook rowRecord picture appended
 append-accepts = refl
 
 -- P4 and P6, by the table and by the journals
 table-counts-two : tableCountCall (rowBook two) [] ≡ record { number = 0; count = 2 }
-unfolding tableCountCall walk walkFrom along rowBook picture
+unfolding tableCountCall walk walkFrom along rowBook rowRecord picture
 table-counts-two = refl
 
 table-counts-none : tableCountCall (rowBook two) (2 ∷ 2 ∷ []) ≡ record { number = 0; count = 0 }
-unfolding tableCountCall walk walkFrom along rowBook picture
+unfolding tableCountCall walk walkFrom along rowBook rowRecord picture
 table-counts-none = refl
 
 journal-counts-two : journalCountCall (journalBook two) (wordRecord []) ≡ record { number = 0; count = 2 }
@@ -124,11 +124,11 @@ journal-count-constant =
 
 -- the journal's second step goes into byte 3, and row 1 then has an arc, in byte 64 + 18
 append-journals : getD (appendCall (journalBook single) (rowBook single) 1 .journals) 3 0 ≡ 1
-unfolding appendCall sound journalForm firstWrongRecord journalsOf journalBook journalRecord stepBytes rowBook picture appended
+unfolding appendCall sound journalForm firstWrongRecord journalsOf journalBook journalRecord stepBytes rowBook rowRecord picture appended
 append-journals = refl
 
 append-rows : getD (appendCall (journalBook single) (rowBook single) 1 .rows) 82 0 ≡ 2
-unfolding appendCall sound journalForm firstWrongRecord journalsOf journalBook journalRecord stepBytes rowBook picture appended
+unfolding appendCall sound journalForm firstWrongRecord journalsOf journalBook journalRecord stepBytes rowBook rowRecord picture appended
 append-rows = refl
 
 single-journals : getD (journalBook single) 3 0 ≡ 0
@@ -136,7 +136,7 @@ unfolding journalBook journalRecord stepBytes
 single-journals = refl
 
 single-rows : getD (rowBook single) 82 0 ≡ 0
-unfolding rowBook picture
+unfolding rowBook rowRecord picture
 single-rows = refl
 
 -- An append that writes nothing: neither book may stay as it was.

@@ -9,7 +9,7 @@ use lib.ListN.{replicate, getD, take, drop}
 use Rattle.list.specs.ListCall.{Asked, Wrote, listCall}
 use Rattle.list.specs.Parts.{wordsIn}
 use Rattle.records.specs.JournalBook.{firstWrongRecord, journalForm, journalsOf, journalRecord, journalBook}
-use Rattle.records.specs.RowBook.{rowBook}
+use Rattle.records.specs.RowBook.{rowBook, rowRecord}
 use Rattle.records.specs.Sound.{sound}
 use Rattle.records.specs.StepBytes.{stepBytes}
 use Rattle.records.specs.WordRecord.{wordRecord}
@@ -30,15 +30,15 @@ asked = record {
 }
 
 listed : wordsIn (listCall asked) ≡ [] ∷ (1 ∷ []) ∷ (2 ∷ []) ∷ []
-unfolding listCall sound journalForm firstWrongRecord journalsOf journalBook journalRecord stepBytes rowBook picture listOf
+unfolding listCall sound journalForm firstWrongRecord journalsOf journalBook journalRecord stepBytes rowBook rowRecord picture listOf
 listed = refl
 
 accepted : listCall asked .answer .number ≡ 0
-unfolding listCall sound journalForm firstWrongRecord journalsOf journalBook journalRecord stepBytes rowBook picture listOf
+unfolding listCall sound journalForm firstWrongRecord journalsOf journalBook journalRecord stepBytes rowBook rowRecord picture listOf
 accepted = refl
 
 reported : listCall asked .answer .written ≡ 3
-unfolding listCall sound journalForm firstWrongRecord journalsOf journalBook journalRecord stepBytes rowBook picture listOf
+unfolding listCall sound journalForm firstWrongRecord journalsOf journalBook journalRecord stepBytes rowBook rowRecord picture listOf
 reported = refl
 
 -- the first byte of a record
@@ -47,7 +47,7 @@ begins i out = getD (take 16 (drop (16 * i) out)) 0 0
 
 -- each reported record is written: it begins with a word's length and no longer with a 7
 written : (i : ℕ) → i < 3 → begins i (listCall asked .out) ≡ begins i (asked .out) → ⊥
-unfolding listCall sound journalForm firstWrongRecord journalsOf journalBook journalRecord stepBytes rowBook picture listOf
+unfolding listCall sound journalForm firstWrongRecord journalsOf journalBook journalRecord stepBytes rowBook rowRecord picture listOf
 written zero h e = omega arith
 written (suc zero) h e = omega arith
 written (suc (suc zero)) h e = omega arith

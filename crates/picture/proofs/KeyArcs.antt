@@ -7,7 +7,7 @@ use mathlib.Core.List.{List, _∷_, _++_, map, List·Memᴰ, Memᴰ·map}
 use lib.ListN.{length, take}
 use Rattle.words.specs.Order.{Ascending}
 use Rattle.words.specs.Words.{AreJournals}
-use Rattle.words.specs.Places.{step, live, held}
+use Rattle.words.specs.Places.{step, live}
 use Rattle.words.specs.Picture.{codes, picture, rowOf, arc}
 use Rattle.words.proofs.Members.{picture-ascending}
 use Rattle.words.proofs.Place.{Short, short}
@@ -15,10 +15,9 @@ use Rattle.words.proofs.Rows.{step-row, row-width}
 use Rattle.words.proofs.Steps.{step-length}
 use Rattle.words.proofs.Test.{test}
 use Rattle.records.specs.Bytes.{flat}
-use Rattle.records.specs.RowBook.{placeBytes, rowBytes, rowBook}
+use Rattle.records.specs.RowBook.{rowRecord, placeBytes, countByte, behindCount, rowBytes, rowBook}
 use Rattle.records.proofs.Keys.{Widths, key-back, key-length, keys-ascending, row-keys}
 use Rattle.records.proofs.Flat.{flat-map}
-use Rattle.row.specs.Record.{bytesOf}
 use Rattle.table.specs.Keys.{rankOf}
 use Rattle.table.proofs.Ranks.{rank-row}
 use Rattle.picture.specs.Nexts.{Tabled}
@@ -72,8 +71,8 @@ module _ (js : List (List ℕ)) (are : AreJournals js) where
 
       -- the record made of a row's key is the row's
       pub key-row : keyRow nexts (length js) (rowKeys js) (placeBytes a) ≡ rowBytes js a
-      unfolding bytesOf keyArcs
-      key-row = ap₂ (bytesOf (placeBytes a)) (arcs-from 0 16 refl) (ap held row-back)
+      unfolding keyArcs
+      key-row = ap₂ (λ (l : List ℕ) (n : ℕ). rowRecord (placeBytes a) l n behindCount) (arcs-from 0 16 refl) (ap countByte row-back)
 
     -- the records made of all rows' keys, and zeros behind them, are the picture's book
     pub keys-book : (k n : ℕ) (keys : List (List ℕ)) → k ≡ length js → n ≡ length (picture js) → keys ≡ rowKeys js

@@ -4,9 +4,10 @@ use mathlib.Core.Path.{_≡_, refl, sym}
 use mathlib.Core.Bool.{true, false}
 use mathlib.Core.List.{List}
 use lib.ListN.{length, take, getD}
-use Rattle.words.specs.Places.{live, held}
+use Rattle.words.specs.Places.{live}
 use Rattle.words.proofs.Codes.{at-step}
-use Rattle.row.proofs.Record.{length-bytes}
+use Rattle.records.specs.RowBook.{countByte, behindCount}
+use Rattle.records.proofs.RowRecord.{record-length}
 use Rattle.table.specs.Keys.{rankOf}
 use Rattle.picture.specs.Stepped.{steppedKey}
 use Rattle.picture.specs.KeyRow.{keyArc, keyArcs, keyRow}
@@ -35,4 +36,4 @@ module _ (nexts : List ℕ) (k : ℕ) (keys : List (List ℕ)) (key : List ℕ) 
 
   -- a key's record has 64 bytes
   pub key-row-length : length key ≡ 16 → length (keyRow nexts k keys key) ≡ 64
-  key-row-length h = length-bytes key (keyArcs nexts k keys key) (held (take k key)) h length-arcs
+  key-row-length h = record-length key (keyArcs nexts k keys key) (countByte (take k key)) behindCount h length-arcs refl

@@ -3,17 +3,24 @@ use Prim.Native.Nat.{ℕ, _+_, _*_, _-_, _≤_, _<_}
 use native.Mathlib.Omega.{arith}
 use mathlib.Core.Path.{_≡_, refl, sym, ap, _∙_}
 use mathlib.Core.List.{List, [], _++_, append-assoc}
-use lib.ListN.{length, take, drop, getD, replicate, length-append, replicate-append-replicate}
+use lib.ListN.{length, take, drop, getD, replicate, replicate-append-replicate}
 use lib.Seq.{paste, drop-drop, take-all, take-at}
 use Rattle.words.proofs.Rows.{at-mem}
 use Rattle.records.specs.Sizes.{rowBookSize}
 use Rattle.records.proofs.Flat.{Wide, flat-zeros}
+use Rattle.records.specs.RowBook.{rowRecord, behindCount}
+use Rattle.records.proofs.RowRecord.{record-length}
 use Rattle.records.proofs.Replaced.{replaced, replaced-on, from-item, behind}
 use Rattle.picture.specs.Laid.{laid, unused}
 
 -- a record of zeros
 abbrev pub blank : List ℕ → List ℕ
 blank key = replicate 64 0
+
+-- a laid record is its places, and zeros behind them
+laid-zeros : (key : List ℕ) → laid key ≡ key ++ replicate 48 0
+unfolding rowRecord
+laid-zeros key = append-assoc key (replicate 32 0) (replicate 16 0)
 
 -- every key has 16 bytes
 abbrev pub Sixteen : List (List ℕ) → Type 0
@@ -31,7 +38,7 @@ module _ (keys : List (List ℕ)) where
   module _ (sixteen : Sixteen keys) where
     -- a laid record has 64 bytes
     pub laid-wide : Wide laid 64 keys
-    laid-wide a m = omega (arith, length-append a (replicate 48 0), sixteen a m)
+    laid-wide a m = record-length a (replicate 16 0) 0 behindCount (sixteen a m) refl refl
 
     module _ (z : List ℕ) (i : ℕ) (b : i < length keys) where
       abbrev Key : List ℕ
@@ -52,11 +59,11 @@ module _ (keys : List (List ℕ)) where
           rw (e, take-all 16 Key (omega (arith, key-sixteen)), rest)
           (append-assoc (take (64 * i) Book) Key (replicate 48 0 ++ drop (64 * i + 64) Book)
           ∙ ap (λ (r : List ℕ). take (64 * i) Book ++ r) (sym (append-assoc Key (replicate 48 0) (drop (64 * i + 64) Book)))
+          ∙ ap (λ (r : List ℕ). take (64 * i) Book ++ (r ++ drop (64 * i + 64) Book)) (sym (laid-zeros Key))
           ∙ replaced-on laid blank keys z 64 laid-wide blank-wide i b)
 
       -- a laid row is read: its places are the key
       pub laid-places : (new : List ℕ → List ℕ) → Wide new 64 keys → take 16 (drop (64 * i) (replaced new laid keys z i)) ≡ Key
       laid-places new wide =
           ap (take 16) (from-item new laid keys z 64 wide laid-wide i b)
-          ∙ ap (take 16) (append-assoc Key (replicate 48 0) _)
-          ∙ take-at Key _ 16 key-sixteen
+          ∙ rw (laid-zeros Key, append-assoc) (take-at Key _ 16 key-sixteen)

@@ -3,10 +3,9 @@ use Prim.Native.Nat.{ℕ, _+_, _*_, _<_}
 use mathlib.Core.Path.{_≡_, ap, _∙_}
 use mathlib.Core.List.{List, [], _++_}
 use lib.ListN.{length, take, drop, getD}
-use Rattle.words.specs.Places.{held}
 use Rattle.records.proofs.Flat.{Wide}
 use Rattle.records.proofs.Replaced.{replaced, replaced-on}
-use Rattle.row.specs.Record.{bytesOf}
+use Rattle.records.specs.RowBook.{rowRecord, countByte, behindCount}
 use Rattle.picture.specs.KeyRow.{keyArcs, keyRow}
 use Rattle.picture.specs.Laid.{laid}
 use Rattle.picture.proofs.KeyRow.{key-row-length}
@@ -23,8 +22,8 @@ module _ (nexts : List ℕ) (k : ℕ) (keys : List (List ℕ)) (z : List ℕ) wh
 
     -- row i, read from the book, is written with its arcs
     pub links : (rows read places arcs : List ℕ) (count : ℕ) → rows ≡ linked i → read ≡ take 16 (drop (64 * i) rows)
-        → places ≡ read → arcs ≡ keyArcs nexts k keys read → count ≡ held (take k read)
-        → take (64 * i) rows ++ (bytesOf places arcs count ++ drop (64 * i + 64) rows) ≡ linked (i + 1)
+        → places ≡ read → arcs ≡ keyArcs nexts k keys read → count ≡ countByte (take k read)
+        → take (64 * i) rows ++ (rowRecord places arcs count behindCount ++ drop (64 * i + 64) rows) ≡ linked (i + 1)
     links rows read places arcs count e r p a c =
         let key : read ≡ getD keys i [] = r ∙ ap (λ (x : List ℕ). take 16 (drop (64 * i) x)) e ∙ laid-places keys sixteen z i b (keyRow nexts k keys) wide in
         rw (p, a, c, key, e) (replaced-on (keyRow nexts k keys) laid keys z 64 wide (laid-wide keys sixteen) i b)

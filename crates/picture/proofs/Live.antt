@@ -9,7 +9,8 @@ use mathlib.Core.List.{List, [], _∷_}
 use lib.ListN.{length, take, drop, getD, drop-of-length-le}
 use lib.Seq.{drop-cons, getD-take, length-take-le}
 use borrow.Author.Tests.{eq-eqb, ne-eqb}
-use Rattle.words.specs.Places.{live, held}
+use Rattle.words.specs.Places.{live}
+use Rattle.records.specs.RowBook.{countByte}
 
 -- those from place i on
 abbrev pub placesFrom : ℕ → List ℕ → ℕ → List ℕ
@@ -26,11 +27,11 @@ module _ (k : ℕ) (key : List ℕ) (i : ℕ) (h : i < k) (room : k ≤ length k
   pub live-on : getD key i 0 ≡ 255 → live (placesFrom k key i) ≡ live (placesFrom k key (i + 1))
   live-on e = rw (from-place, eq-eqb (getD key i 0) 255 e)
 
-  pub held-here : (getD key i 0 ≡ 255 → ⊥) → held (placesFrom k key i) ≡ suc (held (placesFrom k key (i + 1)))
-  held-here n = rw (from-place, ne-eqb (getD key i 0) 255 n)
+  pub count-here : (getD key i 0 ≡ 255 → ⊥) → countByte (placesFrom k key i) ≡ suc (countByte (placesFrom k key (i + 1)))
+  count-here n = rw (from-place, ne-eqb (getD key i 0) 255 n)
 
-  pub held-on : getD key i 0 ≡ 255 → held (placesFrom k key i) ≡ held (placesFrom k key (i + 1))
-  held-on e = rw (from-place, eq-eqb (getD key i 0) 255 e)
+  pub count-on : getD key i 0 ≡ 255 → countByte (placesFrom k key i) ≡ countByte (placesFrom k key (i + 1))
+  count-on e = rw (from-place, eq-eqb (getD key i 0) 255 e)
 
 module _ (k : ℕ) (key : List ℕ) (i : ℕ) (h : k ≤ i) (room : k ≤ length key) where
   behind : placesFrom k key i ≡ []
@@ -39,5 +40,5 @@ module _ (k : ℕ) (key : List ℕ) (i : ℕ) (h : k ≤ i) (room : k ≤ length
   pub live-end : live (placesFrom k key i) ≡ false
   live-end = rw behind
 
-  pub held-end : held (placesFrom k key i) ≡ 0
-  held-end = rw behind
+  pub count-end : countByte (placesFrom k key i) ≡ 0
+  count-end = rw behind

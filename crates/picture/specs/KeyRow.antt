@@ -3,9 +3,9 @@ use Prim.Native.Nat.{ℕ}
 use mathlib.Core.Bool.{cond}
 use mathlib.Core.List.{List, map}
 use lib.ListN.{take}
-use Rattle.words.specs.Places.{live, held}
+use Rattle.words.specs.Places.{live}
 use Rattle.words.specs.Picture.{steps}
-use Rattle.row.specs.Record.{bytesOf}
+use Rattle.records.specs.RowBook.{rowRecord, countByte, behindCount}
 use Rattle.table.specs.Keys.{rankOf}
 use Rattle.picture.specs.Stepped.{steppedKey}
 
@@ -19,4 +19,4 @@ keyArcs nexts k keys key = map (keyArc nexts k keys key) steps
 
 -- its record
 abbrev pub keyRow : List ℕ → ℕ → List (List ℕ) → List ℕ → List ℕ
-keyRow nexts k keys key = bytesOf key (keyArcs nexts k keys key) (held (take k key))
+keyRow nexts k keys key = rowRecord key (keyArcs nexts k keys key) (countByte (take k key)) behindCount

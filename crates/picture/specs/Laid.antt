@@ -4,10 +4,12 @@ use mathlib.Core.List.{List, _++_}
 use lib.ListN.{length, replicate}
 use Rattle.records.specs.Sizes.{rowRecordSize, mostRows}
 use Rattle.records.specs.Bytes.{flat}
+use Rattle.records.specs.RowBook.{rowRecord, behindCount}
+use Rattle.words.specs.Limits.{stepCodes}
 
--- a record with its places alone
+-- a record with its places, and zeros for its arcs and its count
 abbrev pub laid : List ℕ → List ℕ
-laid key = key ++ replicate 48 0
+laid key = rowRecord key (replicate stepCodes 0) 0 behindCount
 
 -- the records behind the first n, all zero
 abbrev pub unused : ℕ → List ℕ

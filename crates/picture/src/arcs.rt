@@ -1,6 +1,6 @@
 // A row's arcs: its places are stepped to a new array under each step, and that is looked for among the states.
 
-use crate::state::held_in;
+use crate::state::count_of;
 use crate::state::is_live;
 use crate::state::step_key;
 use row::Row;
@@ -9,10 +9,10 @@ ghost use mathlib.Core.Path.{_≡_};
 ghost use Prim.Native.Nat.{_*_, _≤_, _<_};
 ghost use lib.ListN.{length, take};
 ghost use Rattle.words.specs.Order.{Ascending};
-ghost use Rattle.words.specs.Places.{held};
 ghost use Rattle.words.specs.Limits.{stepCodes, mostJournals};
 ghost use Rattle.records.specs.Sizes.{mostRows};
 ghost use Rattle.records.specs.Bytes.{records};
+ghost use Rattle.records.specs.RowBook.{countByte};
 ghost use Rattle.picture.specs.Nexts.{nextsOfAll};
 ghost use Rattle.picture.specs.KeyRow.{keyArc, keyArcs};
 ghost use Rattle.table.specs.Keys.{keySize};
@@ -32,7 +32,7 @@ fn arc_of(nexts: &[u8], k: usize, t: &[u8], n: usize, key: [u8; 16], s: u8) -> u
 // A row with its arcs and its count, whatever they were.
 pub(crate) fn step_row(nexts: &[u8], k: usize, t: &[u8], n: usize, row: Row) -> Row
     requires { ⌜ (length (now nexts) ≡ nextsOfAll) × (k ≤ mostJournals) × (keySize * n ≤ length (now t)) × (n ≤ mostRows) × Ascending (records keySize n (now t)) ⌝ }
-    ensures { λ y. ⌜ (y .places ≡ row .places) × (y .arcs ≡ keyArcs (now (nexts .entry)) k (records keySize n (now (t .entry))) (row .places)) × (y .count ≡ held (take k (row .places))) ⌝ }
+    ensures { λ y. ⌜ (y .places ≡ row .places) × (y .arcs ≡ keyArcs (now (nexts .entry)) k (records keySize n (now (t .entry))) (row .places)) × (y .count ≡ countByte (take k (row .places))) ⌝ }
 {
     let places = row.places;
     let mut arcs = row.arcs;
@@ -44,6 +44,6 @@ pub(crate) fn step_row(nexts: &[u8], k: usize, t: &[u8], n: usize, row: Row) -> 
     Row {
         places: places,
         arcs: arcs,
-        count: held_in(k, places),
+        count: count_of(k, places),
     }
 }

@@ -1,4 +1,4 @@
-// One state as a key of sixteen places, of which the first k count: stepped to a new array, live, held.
+// One state as a key of sixteen places, of which the first k count: stepped to a new array, live, counted.
 
 use crate::nexts::NEXTS;
 use crate::nexts::STEPS;
@@ -7,8 +7,9 @@ use words::LOST;
 ghost use mathlib.Core.Path.{_≡_};
 ghost use Prim.Native.Nat.{_≤_, _<_};
 ghost use lib.ListN.{length, take};
-ghost use Rattle.words.specs.Places.{live, held};
+ghost use Rattle.words.specs.Places.{live};
 ghost use Rattle.words.specs.Limits.{stepCodes, mostJournals};
+ghost use Rattle.records.specs.RowBook.{countByte};
 ghost use Rattle.picture.specs.Nexts.{nextsOfAll};
 ghost use Rattle.picture.specs.Stepped.{nextAt, steppedKey};
 
@@ -53,10 +54,10 @@ pub(crate) fn is_live(k: usize, key: [u8; 16]) -> bool
     false
 }
 
-// How many of the first k places aren't lost.
-pub(crate) fn held_in(k: usize, key: [u8; 16]) -> u8
+// What the count byte of a key's row says: how many of the first k places aren't lost.
+pub(crate) fn count_of(k: usize, key: [u8; 16]) -> u8
     requires { ⌜ k ≤ mostJournals ⌝ }
-    ensures { λ r. ⌜ r ≡ held (take k key) ⌝ }
+    ensures { λ r. ⌜ r ≡ countByte (take k key) ⌝ }
 {
     let mut n: u8 = 0;
     let mut i = 0;

@@ -4,6 +4,7 @@ pub mod StepBytes
 pub mod Form
 pub mod FirstWrong
 pub mod Keys
+pub mod RowRecord
 pub mod RowBytes
 pub mod Replaced
 pub mod Sound

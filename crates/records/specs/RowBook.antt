@@ -8,21 +8,25 @@ use Rattle.words.specs.Picture.{picture, arcs, steps}
 use Rattle.records.specs.Sizes.{rowRecordSize, mostRows}
 use Rattle.records.specs.Bytes.{flat, twoBytes}
 
--- bytes 0 to 15 the places, one byte each, 255 for lost, and 0 for a journal that isn't open
+-- a row's 64 bytes: 16 places, 16 arcs of two bytes each, low byte first, the count in byte 48, and what stands behind it
+unfoldable pub rowRecord : List ℕ → List ℕ → ℕ → List ℕ → List ℕ
+rowRecord places arcs count behind = places ++ twoBytes arcs ++ (count ∷ behind)
+
+-- a state's places as bytes: a journal that isn't open has 0
 abbrev pub placeBytes : List ℕ → List ℕ
 placeBytes a = a ++ replicate (mostJournals - length a) 0
 
--- bytes 16 to 47 the arcs by step, two bytes each, low byte first
-abbrev pub arcBytes : List (List ℕ) → List ℕ → List ℕ
-arcBytes js a = twoBytes (arcs js (picture js) a)
-
--- byte 48 the count, which is the number of open journals whose place isn't lost
+-- what a row's count counts: the open journals in which the state's place isn't lost
 abbrev pub countByte : List ℕ → ℕ
 countByte a = held a
 
--- a row's 64 bytes: bytes 49 to 63 zero
+-- what stands behind the count: 15 zeros
+abbrev pub behindCount : List ℕ
+behindCount = replicate 15 0
+
+-- the row of a state in the picture
 abbrev pub rowBytes : List (List ℕ) → List ℕ → List ℕ
-rowBytes js a = placeBytes a ++ arcBytes js a ++ (countByte a ∷ replicate 15 0)
+rowBytes js a = rowRecord (placeBytes a) (arcs js (picture js) a) (countByte a) behindCount
 
 -- The picture as a book: one row record for each live state, every later record all zero.
 unfoldable pub rowBook : List (List ℕ) → List ℕ

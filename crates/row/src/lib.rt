@@ -6,8 +6,7 @@ ghost use Prim.Native.Nat.{_+_, _≤_, _<_};
 ghost use lib.ListN.{length, take, drop, getD};
 ghost use Rattle.words.specs.Limits.{stepCodes};
 ghost use Rattle.records.specs.Sizes.{rowBookSize, rowRecordSize, mostRows};
-ghost use Rattle.records.specs.RowBook.{placesAt, arcAt, arcsAt, countAt};
-ghost use Rattle.row.specs.Record.{bytesOf};
+ghost use Rattle.records.specs.RowBook.{rowRecord, behindCount, placesAt, arcAt, arcsAt, countAt};
 use records::ARCS;
 use records::COUNT;
 use records::ROW_RECORD;
@@ -71,7 +70,7 @@ pub fn read_row(rows: &[u8], r: usize) -> Row
 // One byte of a row's record.
 fn row_byte(row: Row, c: usize) -> u8
     requires { ⌜ c < rowRecordSize ⌝ }
-    ensures { λ x. ⌜ x ≡ getD (bytesOf (row .places) (row .arcs) (row .count)) c 0 ⌝ }
+    ensures { λ x. ⌜ x ≡ getD (rowRecord (row .places) (row .arcs) (row .count) behindCount) c 0 ⌝ }
 {
     if c < ARCS {
         let places = row.places;
@@ -94,7 +93,7 @@ fn row_byte(row: Row, c: usize) -> u8
 // Writes a row's record from a byte on.
 pub fn write_row(rows: &mut [u8], at: usize, row: Row)
     requires { ⌜ at + rowRecordSize ≤ length (now rows) ⌝ }
-    ensures { λ _. ⌜ now (rows .exit) ≡ take at (now (rows .entry)) ++ (bytesOf (row .places) (row .arcs) (row .count) ++ drop (at + rowRecordSize) (now (rows .entry))) ⌝ }
+    ensures { λ _. ⌜ now (rows .exit) ≡ take at (now (rows .entry)) ++ (rowRecord (row .places) (row .arcs) (row .count) behindCount ++ drop (at + rowRecordSize) (now (rows .entry))) ⌝ }
 {
     let mut c = 0;
     while c < ROW_RECORD {

@@ -4,10 +4,10 @@ use Prim.Native.Nat.{ℕ, _-_, _/_, _%_}
 use native.Mathlib.Omega.{arith}
 use borrow.Author.Needs.{needs}
 use mathlib.Core.Path.{_≡_, sym, _∙_}
-use lib.ListN.{length, getD}
+use lib.ListN.{length, getD, getD-replicate}
 use mir.Syntax.{w16}
 use mir.Val.{Fits}
-use Rattle.row.proofs.Record.{byte-place, byte-low, byte-high, byte-count, byte-zero}
+use Rattle.records.proofs.RowRecord.{byte-place, byte-low, byte-high, byte-count, byte-behind}
 use Rattle.row.proofs.row_byte.Statement.{statement}
 use Rattle.row.proofs.row_byte.Tie as tie
 
@@ -26,7 +26,7 @@ array-read-result c = search needs
 returns : tie.Need-returns
 returns c =
     let s = c .before .before in
-    sym (byte-place _ _ _ (places-long s) (arcs-long s) _ (omega arith))
+    sym (byte-place _ _ _ _ (places-long s) (arcs-long s) _ (omega arith))
 
 mul-arc : tie.Need-mul-arc
 mul-arc c = search needs
@@ -40,7 +40,7 @@ cast-result c = search needs
 returns-2 : tie.Need-returns-2
 returns-2 c =
     let s = c .before .before .before .before in
-    sym (byte-low _ _ _ (places-long s) (arcs-long s) _ (omega arith) (omega arith) (omega arith))
+    sym (byte-low _ _ _ _ (places-long s) (arcs-long s) _ (omega arith) (omega arith) (omega arith))
 
 cast-result-2 : tie.Need-cast-result-2
 cast-result-2 c = search needs
@@ -50,17 +50,17 @@ returns-3 c =
     let s = c .before .before .before .before in
     let i = (s .args .c - 16) / 2 in
     let e : getD (s .args .row .arcs) i 0 / 256 % 256 ≡ getD (s .args .row .arcs) i 0 / 256 = omega (arith, arc-fits s i) in
-    e ∙ sym (byte-high _ _ _ (places-long s) (arcs-long s) _ (omega arith) (omega arith) (c .if3 .left))
+    e ∙ sym (byte-high _ _ _ _ (places-long s) (arcs-long s) _ (omega arith) (omega arith) (c .if3 .left))
 
 returns-4 : tie.Need-returns-4
 returns-4 c =
     let s = c .before .before .before in
-    sym (byte-count _ _ _ (places-long s) (arcs-long s) _ (omega arith))
+    sym (byte-count _ _ _ _ (places-long s) (arcs-long s) _ (omega arith))
 
 returns-5 : tie.Need-returns-5
 returns-5 c =
     let s = c .before .before .before in
-    sym (byte-zero _ _ _ (places-long s) (arcs-long s) _ (omega arith) (omega arith))
+    sym (byte-behind _ _ _ _ (places-long s) (arcs-long s) _ (omega arith) ∙ getD-replicate 15 (s .args .c - 49) 0 0 (omega arith))
 
 pub row-byte-spec : {M : Type 1} → statement M
 row-byte-spec =

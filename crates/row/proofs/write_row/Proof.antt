@@ -8,23 +8,23 @@ use mathlib.Core.Path.{_≡_, refl, ap, ap₂, _∙_}
 use mathlib.Core.List.{List, _++_, append-assoc}
 use lib.ListN.{length, take, drop, set, length-set}
 use lib.Seq.{paste, paste-zero, paste-suc, take-all}
-use Rattle.row.specs.Record.{bytesOf}
-use Rattle.row.proofs.Record.{length-bytes}
+use Rattle.records.specs.RowBook.{rowRecord, behindCount}
+use Rattle.records.proofs.RowRecord.{record-length}
 use Rattle.row.proofs.write_row.Statement.{statement}
 use Rattle.row.proofs.write_row.Tie as tie
 
 abbrev Inv-loop : tie.InvT-loop
 Inv-loop rows₀ at row c₀ rows c =
-    (c ≤ 64) × (length rows ≡ length rows₀) × (rows ≡ paste rows₀ at (bytesOf (row .places) (row .arcs) (row .count)) c)
+    (c ≤ 64) × (length rows ≡ length rows₀) × (rows ≡ paste rows₀ at (rowRecord (row .places) (row .arcs) (row .count) behindCount) c)
 
 abbrev μ-loop : tie.MeasureT-loop
 μ-loop rows₀ at row c₀ rows c = 64 - c
 
 abbrev Record : tie.Start Inv-loop μ-loop → List ℕ
-Record s = bytesOf (s .args .row .places) (s .args .row .arcs) (s .args .row .count)
+Record s = rowRecord (s .args .row .places) (s .args .row .arcs) (s .args .row .count) behindCount
 
 record-long : (s : tie.Start Inv-loop μ-loop) → length (Record s) ≡ 64
-record-long s = length-bytes (s .args .row .places) (s .args .row .arcs) (s .args .row .count) (search needs) (search needs)
+record-long s = record-length (s .args .row .places) (s .args .row .arcs) (s .args .row .count) behindCount (search needs) (search needs) refl
 
 loop-holds : tie.Need-loop-holds Inv-loop μ-loop
 loop-holds c = let s = c .before in (omega arith, refl, paste-zero (s .args .rows .now) (s .args .at) (Record s))

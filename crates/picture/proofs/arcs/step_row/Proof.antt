@@ -67,8 +67,8 @@ loop-again c =
           ∙ paste-suc (s .args .row .arcs) 0 (Arcs s) (l .s) 0 (omega (arith, own-long s)) (omega (arith, arcs-long s))),
     )
 
-held-in-requires : tie.Need-held-in-requires Inv-loop μ-loop
-held-in-requires c κs = search needs
+count-of-requires : tie.Need-count-of-requires Inv-loop μ-loop
+count-of-requires c κs = search needs
 
 returns : tie.Need-returns Inv-loop μ-loop
 returns c =
@@ -83,7 +83,7 @@ returns c =
           ∙ ap (λ (x : List ℕ). take 16 (Arcs s) ++ x) rest
           ∙ append-nil (take 16 (Arcs s))
           ∙ take-all 16 (Arcs s) (omega (arith, arcs-long s)),
-      c .held-in .ensures,
+      c .count-of .ensures,
     )
 
 pub step-row-spec : {M : Type 1} → statement M
@@ -100,5 +100,5 @@ step-row-spec =
     add-s
     loop-less
     loop-again
-    held-in-requires
+    count-of-requires
     returns)

@@ -1,4 +1,4 @@
--- `picture::state::held_in` meets its contract. The invariant: n of the first i places are not lost, so all k hold n more than those from i on, and n is
+-- `picture::state::count_of` meets its contract. The invariant: n of the first i places are not lost, so the count of all k is n more than that of those from i on, and n is
 -- at most i. The measure is how many places are left. Assumes nothing.
 use Prim.Native.Nat.{_+_, _-_, _≤_}
 use native.Mathlib.Omega.{arith}
@@ -6,13 +6,13 @@ use mathlib.Core.Path.{_≡_}
 use mathlib.Core.Logic.{⊎-elim}
 use lib.ListN.{length, take}
 use borrow.Author.Needs.{needs}
-use Rattle.words.specs.Places.{held}
-use Rattle.picture.proofs.Live.{placesFrom, held-here, held-on, held-end}
-use Rattle.picture.proofs.state.held_in.Statement.{statement}
-use Rattle.picture.proofs.state.held_in.Tie as tie
+use Rattle.records.specs.RowBook.{countByte}
+use Rattle.picture.proofs.Live.{placesFrom, count-here, count-on, count-end}
+use Rattle.picture.proofs.state.count_of.Statement.{statement}
+use Rattle.picture.proofs.state.count_of.Tie as tie
 
 abbrev Inv-loop : tie.InvT-loop
-Inv-loop k key n₀ i₀ n i = (i ≤ k) × (n ≤ i) × (length key ≡ 16) × (held (take k key) ≡ n + held (placesFrom k key i))
+Inv-loop k key n₀ i₀ n i = (i ≤ k) × (n ≤ i) × (length key ≡ 16) × (countByte (take k key) ≡ n + countByte (placesFrom k key i))
 
 abbrev μ-loop : tie.MeasureT-loop
 μ-loop k key n₀ i₀ n i = k - i
@@ -36,16 +36,16 @@ loop-again : tie.Need-loop-again Inv-loop μ-loop
 loop-again c =
     let l = c .before .before .loop in
     let a = c .before .before .before .args in
-    ⊎-elim (λ w. omega (arith, held-here (a .k) (a .t2) (l .i) (omega arith) (omega arith) (w .0 .taken)))
-    (λ w. omega (arith, held-on (a .k) (a .t2) (l .i) (omega arith) (omega arith) (w .0 .left))) (c .if1 .came)
+    ⊎-elim (λ w. omega (arith, count-here (a .k) (a .t2) (l .i) (omega arith) (omega arith) (w .0 .taken)))
+    (λ w. omega (arith, count-on (a .k) (a .t2) (l .i) (omega arith) (omega arith) (w .0 .left))) (c .if1 .came)
 
 returns : tie.Need-returns Inv-loop μ-loop
 returns c =
     let l = c .before .loop in
     let a = c .before .before .args in
-    omega (arith, held-end (a .k) (a .t2) (l .i) (omega arith) (omega arith))
+    omega (arith, count-end (a .k) (a .t2) (l .i) (omega arith) (omega arith))
 
-pub held-in-spec : {M : Type 1} → statement M
-held-in-spec =
+pub count-of-spec : {M : Type 1} → statement M
+count-of-spec =
     tie.close
     (tie.spec Inv-loop μ-loop loop-holds array-read-if1 add-n add-i loop-less loop-again returns)
