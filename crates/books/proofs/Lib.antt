@@ -13,4 +13,6 @@ pub mod CheckCases
 pub mod Checks
 pub mod OpenCases
 pub mod AppendCases
+pub mod OpenJournalsCases
+pub mod LiveRowsCases
 pub mod Runs

@@ -7,7 +7,9 @@ use Rattle.books.specs.Append.{appendCall}
 use Rattle.books.specs.Check.{checkCall}
 use Rattle.books.specs.Clear.{clearCall}
 use Rattle.books.specs.JournalCount.{journalCountCall}
+use Rattle.books.specs.LiveRows.{liveRowsCall}
 use Rattle.books.specs.Open.{openCall}
+use Rattle.books.specs.OpenJournals.{openJournalsCall}
 use Rattle.books.specs.RowRecord.{rowRecordCall, rowRecordNumberCall}
 use Rattle.books.specs.TableCount.{tableCountCall}
 
@@ -42,3 +44,9 @@ row-record-one rb r = one-outcome (rowRecordCall rb r)
 
 pub row-record-number-one : (rb : List ℕ) (r : ℕ) → OneOutcome (rowRecordNumberCall rb r)
 row-record-number-one rb r = one-outcome (rowRecordNumberCall rb r)
+
+pub open-journals-one : (jb : List ℕ) → OneOutcome (openJournalsCall jb)
+open-journals-one jb = one-outcome (openJournalsCall jb)
+
+pub live-rows-one : (jb rb : List ℕ) → OneOutcome (liveRowsCall jb rb)
+live-rows-one jb rb = one-outcome (liveRowsCall jb rb)

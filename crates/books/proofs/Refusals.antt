@@ -13,6 +13,8 @@ use Rattle.books.specs.Append.{appendCall}
 use Rattle.books.specs.TableCount.{tableCountRefusals, tableCountCall}
 use Rattle.books.specs.JournalCount.{journalCountRefusals, journalCountCall}
 use Rattle.books.specs.RowRecord.{rowRecordRefusals, rowRecordNumberCall, rowRecordCall}
+use Rattle.books.specs.OpenJournals.{openJournalsRefusals, openJournalsCall}
+use Rattle.books.specs.LiveRows.{liveRowsRefusals, liveRowsCall}
 use Rattle.books.specs.Runs.{Call, clears, opens, appends, called, refusals}
 
 -- the number that counts is given
@@ -84,3 +86,21 @@ row-record-numbers rb r = first-given _
 pub row-record-refused : (rb : List ℕ) (r : ℕ) → (rowRecordNumberCall rb r ≡ 0 → ⊥) → rowRecordCall rb r ≡ []
 unfolding rowRecordCall
 row-record-refused rb r h = refused _ _ [] h
+
+-- open journals: the numbers; a refusal has the number of journals 0
+pub open-journals-numbers : (jb : List ℕ) → Given (openJournalsRefusals jb) (openJournalsCall jb .number)
+unfolding openJournalsCall
+open-journals-numbers jb = first-given _
+
+pub open-journals-refused : (jb : List ℕ) → (openJournalsCall jb .number ≡ 0 → ⊥) → openJournalsCall jb .journals ≡ 0
+unfolding openJournalsCall
+open-journals-refused jb h = refused _ _ 0 h
+
+-- live rows: the numbers; a refusal has the number of rows 0
+pub live-rows-numbers : (jb rb : List ℕ) → Given (liveRowsRefusals jb rb) (liveRowsCall jb rb .number)
+unfolding liveRowsCall
+live-rows-numbers jb rb = first-given _
+
+pub live-rows-refused : (jb rb : List ℕ) → (liveRowsCall jb rb .number ≡ 0 → ⊥) → liveRowsCall jb rb .rows ≡ 0
+unfolding liveRowsCall
+live-rows-refused jb rb h = refused _ _ 0 h

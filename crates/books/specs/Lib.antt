@@ -6,4 +6,6 @@ pub mod TableCount
 pub mod JournalCount
 pub mod Check
 pub mod RowRecord
+pub mod OpenJournals
+pub mod LiveRows
 pub mod Runs

@@ -1,19 +1,31 @@
-// What the check says of a row book: where it first differs from the picture.
+// What is seen of both books in one look: what the check says of them, and how many live states the picture has.
 
 use crate::Checked;
 use crate::number::DAMAGED;
 use crate::number::DONE;
+use crate::number::WRONG_SIZE;
+use crate::size::right_sizes;
 use records::ROW_BOOK;
 use records::ROWS;
+use words::JOURNALS;
 ghost use mathlib.Core.Path.{_≡_};
 ghost use lib.ListN.{length};
+ghost use Rattle.words.specs.Picture.{picture};
 ghost use Rattle.records.specs.Sizes.{rowBookSize};
 ghost use mathlib.Core.Bool.{true};
 ghost use Rattle.records.specs.JournalBook.{journalForm, journalsOf};
-ghost use Rattle.books.specs.Check.{compared, checkRows};
+ghost use Rattle.records.specs.Sound.{sound};
+ghost use Rattle.picture.specs.Drawn.{rowsFound};
+ghost use Rattle.books.specs.Check.{compared, checkRows, checkCall};
+
+// What the check says, and how many live states were found; 0 where the picture wasn't drawn.
+pub(crate) struct Seen {
+    pub says: Checked,
+    pub found: usize,
+}
 
 // What the check says of a row book beside the picture.
-pub(crate) fn compare_rows(rows: &[u8], picture: &[u8]) -> Checked
+fn compare_rows(rows: &[u8], picture: &[u8]) -> Checked
     requires { ⌜ (length (now rows) ≡ rowBookSize) × (length (now picture) ≡ rowBookSize) ⌝ }
     ensures { λ r. ⌜ r ≡ compared (now (rows .entry)) (now (picture .entry)) ⌝ }
 {
@@ -29,15 +41,43 @@ pub(crate) fn compare_rows(rows: &[u8], picture: &[u8]) -> Checked
     Checked::at(DONE, 0, 0)
 }
 
-// What the check says of a row book whose journals have their form.
-pub(crate) fn check_rows(journals: &[u8], rows: &[u8]) -> Checked
+// What is seen of a row book whose journals have their form: the picture is drawn once, for both answers.
+fn see_rows(journals: &[u8], rows: &[u8]) -> Seen
     requires { ⌜ (journalForm (now journals) ≡ true) × (length (now rows) ≡ rowBookSize) ⌝ }
-    ensures { λ r. ⌜ r ≡ checkRows (journalsOf (now (journals .entry))) (now (rows .entry)) ⌝ }
+    ensures says { λ r. ⌜ r .says ≡ checkRows (journalsOf (now (journals .entry))) (now (rows .entry)) ⌝ }
+    ensures found { λ r. ⌜ r .found ≡ rowsFound (journalsOf (now (journals .entry))) ⌝ }
 {
     let mut drawn = [0u8; ROW_BOOK];
     let found = picture::draw(journals, &mut drawn);
     if ROWS < found {
-        return Checked::at(DAMAGED, 2, ROWS);
+        return Seen {
+            says: Checked::at(DAMAGED, 2, ROWS),
+            found,
+        };
     }
-    compare_rows(rows, &drawn)
+    Seen {
+        says: compare_rows(rows, &drawn),
+        found,
+    }
+}
+
+// What is seen of both books.
+pub(crate) fn see(journals: &[u8], rows: &[u8]) -> Seen
+    ensures says { λ r. ⌜ r .says ≡ checkCall (now (journals .entry)) (now (rows .entry)) ⌝ }
+    ensures found { λ r. ⌜ (sound (now (journals .entry)) (now (rows .entry)) ≡ true → r .found ≡ length (picture (journalsOf (now (journals .entry))))) ⌝ }
+{
+    if !right_sizes(journals, rows) {
+        return Seen {
+            says: Checked::at(WRONG_SIZE, 0, 0),
+            found: 0,
+        };
+    }
+    let wrong = journal::first_wrong_record(journals);
+    if wrong != JOURNALS {
+        return Seen {
+            says: Checked::at(DAMAGED, 1, wrong),
+            found: 0,
+        };
+    }
+    see_rows(journals, rows)
 }

@@ -15,8 +15,10 @@ ghost use Rattle.books.specs.TableCount.{tableCountCall};
 ghost use Rattle.books.specs.JournalCount.{journalCountCall};
 ghost use Rattle.books.specs.Check.{checkCall};
 ghost use Rattle.books.specs.RowRecord.{rowRecordCall, rowRecordNumberCall};
+ghost use Rattle.books.specs.OpenJournals.{openJournalsCall};
+ghost use Rattle.books.specs.LiveRows.{liveRowsCall};
 use appending::decide_append;
-use checking::check_rows;
+use checking::see;
 use number::DAMAGED;
 use number::DONE;
 use number::ROWS_FULL;
@@ -51,6 +53,18 @@ pub struct Checked {
     pub book: u8,
     pub at: usize,
     pub byte: usize,
+}
+
+// What the number of open journals is answered with: a number of document 01, and how many journals are open.
+pub struct OpenJournals {
+    pub number: u8,
+    pub journals: usize,
+}
+
+// What the number of live rows is answered with: a number of document 01, and how many live rows there are.
+pub struct LiveRows {
+    pub number: u8,
+    pub rows: usize,
 }
 
 // Clears both books: every byte of them becomes zero.
@@ -135,14 +149,8 @@ pub fn journal_count(journals: &[u8], word_record: &[u8]) -> Counted
 pub fn check(journals: &[u8], rows: &[u8]) -> Checked
     ensures { λ r. ⌜ r ≡ checkCall (now (journals .entry)) (now (rows .entry)) ⌝ }
 {
-    if !right_sizes(journals, rows) {
-        return Checked::at(WRONG_SIZE, 0, 0);
-    }
-    let wrong = journal::first_wrong_record(journals);
-    if wrong != JOURNALS {
-        return Checked::at(DAMAGED, 1, wrong);
-    }
-    check_rows(journals, rows)
+    let seen = see(journals, rows);
+    seen.says
 }
 
 // The 64 bytes of a row record, as a part of the lent row book itself; a part of length 0 where the row's number is refused.
@@ -167,5 +175,46 @@ pub fn row_record_number(rows: &[u8], row: usize) -> u8
         WRONG_ROW
     } else {
         DONE
+    }
+}
+
+// How many journals are open, by the journal book alone.
+pub fn open_journals(journals: &[u8]) -> OpenJournals
+    ensures { λ r. ⌜ r ≡ openJournalsCall (now (journals .entry)) ⌝ }
+{
+    if journals.len() != JOURNAL_BOOK {
+        return OpenJournals {
+            number: WRONG_SIZE,
+            journals: 0,
+        };
+    }
+    let wrong = journal::first_wrong_record(journals);
+    if wrong != JOURNALS {
+        return OpenJournals {
+            number: DAMAGED,
+            journals: 0,
+        };
+    }
+    OpenJournals {
+        number: DONE,
+        journals: journal::open_count(journals),
+    }
+}
+
+// How many live rows sound books have.
+pub fn live_rows(journals: &[u8], rows: &[u8]) -> LiveRows
+    ensures { λ r. ⌜ r ≡ liveRowsCall (now (journals .entry)) (now (rows .entry)) ⌝ }
+{
+    let seen = see(journals, rows);
+    let fault = seen.says.number;
+    if fault != DONE {
+        return LiveRows {
+            number: fault,
+            rows: 0,
+        };
+    }
+    LiveRows {
+        number: DONE,
+        rows: seen.found,
     }
 }
