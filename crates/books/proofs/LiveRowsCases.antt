@@ -1,8 +1,7 @@
 -- The number of live rows by its cases, as the check tells them: refused with the check's number, or that of the picture, and the
 -- latter on the books of journals. Assumes nothing.
-use Prim.Native.Nat.{ℕ, zero, suc, _≤_}
-use native.Mathlib.Omega.{arith}
-use mathlib.Core.Path.{_≡_, refl, sym, ap, ap₂, _∙_}
+use Prim.Native.Nat.{ℕ, _≤_}
+use mathlib.Core.Path.{_≡_, sym, ap, ap₂, _∙_}
 use mathlib.Core.Bool.{true, not}
 use mathlib.Core.List.{List, []}
 use lib.ListN.{length}
@@ -14,10 +13,10 @@ use Rattle.records.specs.Sound.{rightSizes, sound, BooksOf}
 use Rattle.records.proofs.Sound.{books-journals, books-sizes, books-sound}
 use Rattle.books.specs.Check.{checkCall}
 use Rattle.books.specs.LiveRows.{liveRowsRefusals, liveRows, liveRowsCall}
-use Rattle.books.specs.Numbers.{first, unless, done}
+use Rattle.books.specs.Numbers.{first, done}
 use Rattle.books.specs.declared.LiveRows.{LiveRows}
 use Rattle.books.proofs.Checks.{parts-of, check-sound, seen-refused, seen-sound}
-use Rattle.books.proofs.Refusals.{pass, refused}
+use Rattle.books.proofs.Refusals.{pass, refused, told-most}
 
 -- a number and a number of rows, as the code answers them
 abbrev answer : ℕ → ℕ → LiveRows
@@ -36,16 +35,16 @@ module _ (jb rb : List ℕ) where
   unfolding liveRowsCall
   live-found e r f = rw (seen-sound jb rb [] e) (ap (answer 0) (f (check-sound jb rb .0 e)))
 
+  -- books that aren't refused are sound
+  told-sound : first (liveRowsRefusals jb rb) ≡ 0 → sound jb rb ≡ true
+  told-sound e =
+      let size = pass (not (rightSizes jb rb)) _ _ e in
+      not-false (sound jb rb) (pass (not (sound jb rb)) _ _ (size .1) .0)
+
   -- there are never more than 1,000
   pub live-few : liveRowsCall jb rb .rows ≤ mostRows
   unfolding liveRowsCall
-  live-few = by (first (liveRowsRefusals jb rb)) refl
-    where
-      by : (n : ℕ) → first (liveRowsRefusals jb rb) ≡ n → unless n (length (picture (journalsOf jb))) 0 ≤ mostRows
-      by zero e =
-          let size = pass (not (rightSizes jb rb)) _ _ e in
-          parts-of jb rb (not-false (sound jb rb) (pass (not (sound jb rb)) _ _ (size .1) .0)) .1
-      by (suc n) e = omega arith
+  live-few = told-most _ (length (picture (journalsOf jb))) mostRows (λ e. parts-of jb rb (told-sound e) .1)
 
 -- on the books of the journals it is the number of their live states
 pub live-books : {js : List (List ℕ)} {jb rb : List ℕ} → BooksOf js jb rb → liveRowsCall jb rb ≡ liveRows done (length (picture js))

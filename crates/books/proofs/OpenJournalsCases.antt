@@ -1,7 +1,6 @@
 -- The number of open journals by its cases: the book's size, its form, and the number, which is k on the books of k journals.
 -- Assumes nothing.
 use Prim.Native.Nat.{ℕ, _≤_}
-use native.Mathlib.Omega.{arith}
 use mathlib.Core.Path.{_≡_, ap, _∙_}
 use mathlib.Core.Bool.{true, false, not}
 use mathlib.Core.List.{List}
@@ -14,9 +13,9 @@ use Rattle.records.specs.JournalBook.{journalForm, journalsOf}
 use Rattle.records.specs.Sound.{BooksOf}
 use Rattle.records.proofs.Form.{form-book, book-form, book-length}
 use Rattle.records.proofs.Sound.{books-journals}
-use Rattle.books.specs.Numbers.{done, wrongSize, damaged}
-use Rattle.books.specs.OpenJournals.{openJournals, openJournalsCall}
-use Rattle.books.proofs.Refusals.{pass}
+use Rattle.books.specs.Numbers.{first, done, wrongSize, damaged}
+use Rattle.books.specs.OpenJournals.{openJournalsRefusals, openJournals, openJournalsCall}
+use Rattle.books.proofs.Refusals.{pass, told-most}
 
 module _ (jb : List ℕ) where
   pub open-size : (length jb ≡ journalBookSize → ⊥) → openJournalsCall jb ≡ openJournals wrongSize 0
@@ -32,17 +31,21 @@ module _ (jb : List ℕ) where
     unfolding openJournalsCall
     open-known f = rw (eq-eqb (length jb) journalBookSize size, f)
 
-  -- what number 0 says: the book has its form, and its journals are told
-  pub open-told : openJournalsCall jb .number ≡ done → (journalForm jb ≡ true) × (openJournalsCall jb .journals ≡ length (journalsOf jb))
-  unfolding openJournalsCall
-  open-told e =
+  -- a book that isn't refused has its form
+  told-form : first (openJournalsRefusals jb) ≡ 0 → journalForm jb ≡ true
+  told-form e =
       let size = pass (not (eqb (length jb) journalBookSize)) _ _ e in
-      let form = pass (not (journalForm jb)) _ _ (size .1) in
-      (not-false (journalForm jb) (form .0), rw (size .0, form .0))
+      not-false (journalForm jb) (pass (not (journalForm jb)) _ _ (size .1) .0)
+
+  -- with number 0 all journals are told
+  pub open-told : openJournalsCall jb .number ≡ done → openJournalsCall jb .journals ≡ length (journalsOf jb)
+  unfolding openJournalsCall
+  open-told e = rw e
 
   -- there are never more than 16
-  pub open-few : openJournalsCall jb .number ≡ done → openJournalsCall jb .journals ≤ mostJournals
-  open-few e = let t = open-told e in omega (arith, t .1, form-book jb (t .0) .0 .few)
+  pub open-few : openJournalsCall jb .journals ≤ mostJournals
+  unfolding openJournalsCall
+  open-few = told-most _ (length (journalsOf jb)) mostJournals (λ e. form-book jb (told-form e) .0 .few)
 
 -- on the books of the journals it is their number
 pub open-books : {js : List (List ℕ)} {jb rb : List ℕ} → BooksOf js jb rb → openJournalsCall jb ≡ openJournals done (length js)

@@ -1,6 +1,6 @@
 -- Each number is given exactly under its condition and no earlier one, and a refusal leaves every lent byte as it was.
 -- It is one law about lists of refusals, cited for each call. Assumes nothing.
-use Prim.Native.Nat.{ℕ, zero, suc}
+use Prim.Native.Nat.{ℕ, zero, suc, _≤_}
 use native.Mathlib.Omega.{arith}
 use mathlib.Core.Path.{_≡_, refl, sym, subst}
 use mathlib.Core.Bool.{Bool, true, false, cond}
@@ -45,6 +45,11 @@ pass false n rest e = (refl, e)
 pub refused {ℓ} : {A : Type ℓ} (n : ℕ) (new old : A) → (n ≡ 0 → ⊥) → unless n new old ≡ old
 refused zero new old h = absurd (h refl)
 refused (suc n) new old h = refl
+
+-- what is answered is at most m if it is where nothing is refused
+pub told-most : (n a m : ℕ) → (n ≡ 0 → a ≤ m) → unless n a 0 ≤ m
+told-most zero a m h = h refl
+told-most (suc n) a m h = omega arith
 
 -- clear, open and append: the numbers
 pub call-numbers : (c : Call) (jb rb : List ℕ) → Given (refusals c jb rb) (called c jb rb .number)

@@ -1,6 +1,6 @@
--- How large the check's record and byte can be, and how many words the list can write, so that they fit into one number.
--- Assumes nothing.
-use Prim.Native.Nat.{ℕ, zero, suc, _*_, _+_, _/_, _%_, _≤_, _<_}
+-- How large the check's record and byte can be, how many open journals and live rows there are, and how many words the list can
+-- write, so that they fit into one number. Assumes nothing.
+use Prim.Native.Nat.{ℕ, _*_, _+_, _/_, _%_, _≤_, _<_}
 use native.Mathlib.Omega.{arith}
 use mathlib.Core.Path.{_≡_, refl, subst, sym, ap, _∙_}
 use mathlib.Core.Bool.{Bool, true, false, not, _||_, false≢true}
@@ -9,12 +9,18 @@ use lib.ListN.{length, length-take}
 use lib.Dec.{eqb, ltb}
 use borrow.Author.Tests.{ltb-false}
 use Rattle.records.specs.Sound.{rightSizes}
-use Rattle.books.specs.Numbers.{first, unless}
+use Rattle.books.specs.Numbers.{first}
 use Rattle.books.specs.Check.{checkCall, Verdict, wrong-sizes, book-one, too-many, book-two, all-right}
+use Rattle.books.specs.OpenJournals.{openJournalsCall}
+use Rattle.books.specs.LiveRows.{liveRowsCall}
 use Rattle.books.specs.declared.Checked.{Checked}
+use Rattle.books.specs.declared.OpenJournals.{OpenJournals}
+use Rattle.books.specs.declared.LiveRows.{LiveRows}
 use Rattle.books.proofs.BookSizes.{both-sized}
 use Rattle.books.proofs.Checks.{check-verdict}
-use Rattle.books.proofs.Refusals.{pass}
+use Rattle.books.proofs.LiveRowsCases.{live-few}
+use Rattle.books.proofs.OpenJournalsCases.{open-few}
+use Rattle.books.proofs.Refusals.{pass, told-most}
 use Rattle.list.specs.ListCall.{Asked, Wrote, wrongOutput, listRefusals, due, fitting, wrote, listCall}
 use Rattle.list.specs.declared.Listed.{Listed}
 use Rattle.selquorin.specs.Packed.{flagged, packedList}
@@ -32,6 +38,13 @@ verdict-small jb rb (all-right t) = (omega arith, omega arith)
 
 pub small : (jb rb : List ℕ) {c : Checked} → c ≡ checkCall jb rb → Small c
 small jb rb e = subst Small (sym e) (verdict-small jb rb (check-verdict jb rb))
+
+-- the open journals are at most 16, and the live rows at most 1,000
+pub few-journals : (jb : List ℕ) {o : OpenJournals} → o ≡ openJournalsCall jb → o .journals ≤ 16
+few-journals jb e = subst (λ (o : OpenJournals). o .journals ≤ 16) (sym e) (open-few jb)
+
+pub few-rows : (jb rb : List ℕ) {l : LiveRows} → l ≡ liveRowsCall jb rb → l .rows ≤ 1000
+few-rows jb rb e = subst (λ (l : LiveRows). l .rows ≤ 1000) (sym e) (live-few jb rb)
 
 -- a yes or no is at most 1
 pub flag-small : (b : Bool) {f : ℕ} → f ≡ flagged b → f ≤ 1
@@ -57,11 +70,7 @@ fitting-few a h = omega (arith, length-take (length (a .out) / 16) (due a))
 
 call-few : (a : Asked) → listCall a .answer .written ≤ 4096
 unfolding listCall
-call-few a = by (first (listRefusals a)) refl
-  where
-    by : (n : ℕ) → first (listRefusals a) ≡ n → unless n (length (fitting a)) 0 ≤ 4096
-    by zero e = fitting-few a (output-small a e)
-    by (suc n) e = omega arith
+call-few a = told-most (first (listRefusals a)) (length (fitting a)) 4096 (λ e. fitting-few a (output-small a e))
 
 -- the list writes at most 4,096 words
 pub few : (a : Asked) {l : Listed} {out : List ℕ} → wrote l out ≡ listCall a → l .written ≤ 4096

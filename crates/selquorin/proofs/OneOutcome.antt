@@ -6,8 +6,10 @@ use Rattle.books.proofs.OneOutcome.{OneOutcome, one-outcome}
 use Rattle.books.specs.TableCount.{tableCountCall}
 use Rattle.books.specs.JournalCount.{journalCountCall}
 use Rattle.books.specs.Check.{checkCall}
+use Rattle.books.specs.OpenJournals.{openJournalsCall}
+use Rattle.books.specs.LiveRows.{liveRowsCall}
 use Rattle.list.specs.ListCall.{Asked, listCall}
-use Rattle.selquorin.specs.Packed.{packedCount, packedCheck, packedList}
+use Rattle.selquorin.specs.Packed.{packedCount, packedCheck, packedList, packedJournals, packedRows}
 
 pub table-count-one : (rb w : List ℕ) → OneOutcome (packedCount (tableCountCall rb w))
 table-count-one rb w = one-outcome (packedCount (tableCountCall rb w))
@@ -21,3 +23,9 @@ check-one jb rb = one-outcome (packedCheck (checkCall jb rb))
 -- the list's answer, and its output
 pub list-one : (a : Asked) → OneOutcome (packedList (listCall a .answer)) × OneOutcome (listCall a .out)
 list-one a = (one-outcome (packedList (listCall a .answer)), one-outcome (listCall a .out))
+
+pub journals-one : (jb : List ℕ) → OneOutcome (packedJournals (openJournalsCall jb))
+journals-one jb = one-outcome (packedJournals (openJournalsCall jb))
+
+pub rows-one : (jb rb : List ℕ) → OneOutcome (packedRows (liveRowsCall jb rb))
+rows-one jb rb = one-outcome (packedRows (liveRowsCall jb rb))

@@ -3,6 +3,8 @@ use Prim.Native.Nat.{ℕ, _+_, _*_}
 use mathlib.Core.Bool.{Bool, cond}
 use Rattle.books.specs.declared.Counted.{Counted}
 use Rattle.books.specs.declared.Checked.{Checked}
+use Rattle.books.specs.declared.OpenJournals.{OpenJournals}
+use Rattle.books.specs.declared.LiveRows.{LiveRows}
 use Rattle.list.specs.declared.Listed.{Listed}
 
 -- number + 256 · count
@@ -20,3 +22,11 @@ flagged b = cond b 1 0
 -- number + 2^8 · more + 2^16 · written
 abbrev pub packedList : Listed → ℕ
 packedList l = l .number + 256 * flagged (l .more) + 65536 * l .written
+
+-- number + 2^8 · journals
+abbrev pub packedJournals : OpenJournals → ℕ
+packedJournals o = o .number + 256 * o .journals
+
+-- number + 2^8 · rows
+abbrev pub packedRows : LiveRows → ℕ
+packedRows l = l .number + 256 * l .rows

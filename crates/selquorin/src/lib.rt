@@ -12,7 +12,9 @@ ghost use Rattle.books.specs.JournalCount.{journalCountCall};
 ghost use Rattle.books.specs.Check.{checkCall};
 ghost use Rattle.list.specs.ListCall.{asked, listCall};
 ghost use Rattle.books.specs.RowRecord.{rowRecordNumberCall};
-ghost use Rattle.selquorin.specs.Packed.{flagged, packedCount, packedCheck, packedList};
+ghost use Rattle.books.specs.OpenJournals.{openJournalsCall};
+ghost use Rattle.books.specs.LiveRows.{liveRowsCall};
+ghost use Rattle.selquorin.specs.Packed.{flagged, packedCount, packedCheck, packedList, packedJournals, packedRows};
 
 // Clears both books.
 #[no_mangle]
@@ -111,4 +113,26 @@ pub extern "C" fn selquorin_row_record_number(rows: &[u8], row: usize) -> u8
     ensures { λ r. ⌜ r ≡ rowRecordNumberCall (now (rows .entry)) row ⌝ }
 {
     books::row_record_number(rows, row)
+}
+
+// How many journals are open: the number, and the journals 2^8 times.
+#[no_mangle]
+pub extern "C" fn selquorin_journals(journals: &[u8]) -> u32
+    ensures { λ r. ⌜ r ≡ packedJournals (openJournalsCall (now (journals .entry))) ⌝ }
+{
+    let told = books::open_journals(journals);
+    let number = told.number;
+    let open_ones = told.journals;
+    number as u32 + 256 * (open_ones as u32)
+}
+
+// How many live rows sound books have: the number, and the rows 2^8 times.
+#[no_mangle]
+pub extern "C" fn selquorin_rows(journals: &[u8], rows: &[u8]) -> u32
+    ensures { λ r. ⌜ r ≡ packedRows (liveRowsCall (now (journals .entry)) (now (rows .entry))) ⌝ }
+{
+    let told = books::live_rows(journals, rows);
+    let number = told.number;
+    let live_ones = told.rows;
+    number as u32 + 256 * (live_ones as u32)
 }
