@@ -11,11 +11,12 @@ use Rattle.records.specs.Sound.{BooksOf}
 use Rattle.books.specs.Numbers.{first, unless}
 use Rattle.books.specs.Clear.{After, after}
 use Rattle.books.specs.Open.{openCall}
+use Rattle.books.specs.OpenJournals.{openJournalsRefusals}
 use Rattle.books.specs.Append.{appendCall}
 use Rattle.books.specs.Runs.{opens, appends}
 use Rattle.books.proofs.Refusals.{refused, call-refused}
 use Rattle.books.proofs.Runs.{call-keeps}
-use Rattle.feed.specs.Entry.{Entry, broken, append-entry, open-entry, open-append-entry, entryOf, openAppend, openAppendWhole, enter, bookRefusals, entryCall}
+use Rattle.feed.specs.Entry.{Entry, broken, append-entry, open-entry, open-append-entry, entryOf, openAppend, openAppendWhole, enter, entryCall}
 
 -- refused, it leaves the books jb and rb
 abbrev Whole : List ℕ → List ℕ → After → Type 0
@@ -51,7 +52,7 @@ module _ (jb rb : List ℕ) where
   pub entry-whole : (n s : ℕ) → (entryCall jb rb n s .number ≡ 0 → ⊥) → (entryCall jb rb n s .journals ≡ jb) × (entryCall jb rb n s .rows ≡ rb)
   unfolding entryCall
   entry-whole n s =
-      let m : ℕ = first (bookRefusals jb) in
+      let m : ℕ = first (openJournalsRefusals jb) in
       let e : Entry = entryOf (length (journalsOf jb)) n s in
       either (Whole jb rb) (eqb m 0) (enter e jb rb) (after m jb rb) (enter-whole e) (λ h. (refl, refl))
 
@@ -80,6 +81,6 @@ module _ (js : List (List ℕ)) (jb rb : List ℕ) (b : BooksOf js jb rb) where
   pub entry-keeps : (n s : ℕ) → (ks : List (List ℕ)) × BooksOf ks (entryCall jb rb n s .journals) (entryCall jb rb n s .rows)
   unfolding entryCall
   entry-keeps n s =
-      let m : ℕ = first (bookRefusals jb) in
+      let m : ℕ = first (openJournalsRefusals jb) in
       let e : Entry = entryOf (length (journalsOf jb)) n s in
       either Kept (eqb m 0) (enter e jb rb) (after m jb rb) (enter-keeps e) (js, b)

@@ -2,11 +2,9 @@ pub mod OneOutcome
 pub mod AskCases
 pub mod Asking
 pub mod EntryCases
-pub mod EmptyCount
+pub mod Entering
 pub mod Taking
 pub mod Entries
 pub mod FeedCases
-pub mod LiveCount
-pub mod LiveRows
 pub mod Numbers
 pub mod Feeding

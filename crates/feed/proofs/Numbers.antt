@@ -12,10 +12,11 @@ use Rattle.records.specs.JournalBook.{journalsOf}
 use Rattle.books.specs.Numbers.{Refusal, first, Given, brokenEntry}
 use Rattle.books.specs.Clear.{After}
 use Rattle.books.specs.Open.{openRefusals, openCall}
+use Rattle.books.specs.OpenJournals.{openJournalsRefusals}
 use Rattle.books.specs.Append.{appendRefusals, appendCall}
 use Rattle.books.proofs.Refusals.{first-given, refused}
 use Rattle.feed.specs.Ask.{askRefusals, askCall}
-use Rattle.feed.specs.Entry.{Entry, broken, append-entry, open-entry, open-append-entry, entryOf, openAppend, openAppendWhole, enter, bookRefusals, entryCall}
+use Rattle.feed.specs.Entry.{Entry, broken, append-entry, open-entry, open-append-entry, entryOf, openAppend, openAppendWhole, enter, entryCall}
 
 -- the ask: each number exactly under its condition and no earlier one
 pub ask-numbers : (k : ℕ) (file : List ℕ) → Given (askRefusals k file) (askCall k file .number)
@@ -70,6 +71,6 @@ module _ (jb rb : List ℕ) where
   broken-enters e b = rw b
 
   -- on a journal book of right form, an entry is refused with 11 exactly when it is broken
-  pub entry-broken : first (bookRefusals jb) ≡ 0 → (n s : ℕ) → (entryCall jb rb n s .number ≡ brokenEntry) ↔ (entryOf (length (journalsOf jb)) n s ≡ broken)
+  pub entry-broken : first (openJournalsRefusals jb) ≡ 0 → (n s : ℕ) → (entryCall jb rb n s .number ≡ brokenEntry) ↔ (entryOf (length (journalsOf jb)) n s ≡ broken)
   unfolding entryCall
   entry-broken z n s = rw z (enter-broken (entryOf (length (journalsOf jb)) n s), broken-enters (entryOf (length (journalsOf jb)) n s))

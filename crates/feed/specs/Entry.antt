@@ -1,17 +1,17 @@
 -- The loading program's entries: what one does to the books, or the number that it is refused with, and what a row of them does. Assumes nothing.
 use Prim.Native.Nat.{ℕ, suc, _+_}
-use mathlib.Core.Bool.{cond, not, _&&_}
+use mathlib.Core.Bool.{cond, _&&_}
 use mathlib.Core.List.{List, [], _∷_}
 use lib.ListN.{length, getD}
 use lib.Dec.{eqb, ltb, leb}
 use Rattle.words.specs.Limits.{stepCodes}
-use Rattle.records.specs.Sizes.{journalBookSize}
-use Rattle.books.specs.Numbers.{Refusal, first, done, wrongSize, damaged, brokenEntry}
-use Rattle.records.specs.JournalBook.{journalForm, journalsOf}
+use Rattle.books.specs.Numbers.{first, done, brokenEntry}
+use Rattle.records.specs.JournalBook.{journalsOf}
 use Rattle.books.specs.Clear.{After, after, leaves}
 use Rattle.feed.specs.declared.Fed.{Fed}
 use Rattle.books.specs.Open.{openCall}
 use Rattle.books.specs.Append.{appendCall}
+use Rattle.books.specs.OpenJournals.{openJournalsRefusals}
 
 -- the step that only opens
 abbrev pub onlyOpen : ℕ
@@ -49,17 +49,10 @@ enter (append-entry s) jb rb = appendCall jb rb s
 enter open-entry jb rb = openCall jb rb
 enter (open-append-entry s) jb rb = openAppendWhole jb rb s
 
--- the numbers of a journal book that isn't one; the program's own books never have them
-abbrev pub bookRefusals : List ℕ → List Refusal
-bookRefusals jb =
-    record { holds = not (eqb (length jb) journalBookSize); number = wrongSize }
-    ∷ record { holds = not (journalForm jb); number = damaged }
-    ∷ []
-
--- one entry: a journal number and a step
+-- one entry: a journal number and a step; a journal book that isn't one is refused as the number of its open journals is
 unfoldable pub entryCall : List ℕ → List ℕ → ℕ → ℕ → After
 entryCall jb rb n s =
-    let number : ℕ = first (bookRefusals jb) in
+    let number : ℕ = first (openJournalsRefusals jb) in
     let entered : After = enter (entryOf (length (journalsOf jb)) n s) jb rb in
     cond (eqb number done) entered (after number jb rb)
 

@@ -2,4 +2,3 @@ pub mod Entry
 pub mod Ask
 pub mod Asked
 pub mod Reading
-pub mod Live

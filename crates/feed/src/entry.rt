@@ -8,7 +8,6 @@ use books::number::DONE;
 use books::number::WRONG_SIZE;
 use records::JOURNAL_BOOK;
 use records::ROW_BOOK;
-use records::WORD_RECORD;
 use words::STEP_CODES;
 ghost use mathlib.Core.Path.{_≡_};
 ghost use Prim.Native.Nat.{_<_};
@@ -86,17 +85,16 @@ fn open_append_whole(journals: &mut [u8], rows: &mut [u8], step: u8) -> u8
     DONE
 }
 
-// Takes one entry, whole or not at all. How many journals are open is the journal count of the empty word.
+// Takes one entry, whole or not at all.
 pub fn enter(journals: &mut [u8], rows: &mut [u8], number: u8, step: u8) -> u8
     ensures { λ r. ⌜ after r (now (journals .exit)) (now (rows .exit)) ≡ entryCall (now (journals .entry)) (now (rows .entry)) number step ⌝ }
 {
-    let empty = [0u8; WORD_RECORD];
-    let counted = books::journal_count(journals, &empty);
-    let wrong = counted.number;
+    let known = books::open_journals(journals);
+    let wrong = known.number;
     if wrong != DONE {
         return wrong;
     }
-    match entry_of(counted.count as usize, number, step) {
+    match entry_of(known.journals, number, step) {
         Entry::Broken => BROKEN_ENTRY,
         Entry::Append(s) => books::append(journals, rows, s),
         Entry::Open => books::open(journals, rows),

@@ -4,7 +4,6 @@
 mod ask;
 mod copy;
 mod entry;
-mod live;
 mod reader;
 
 use entry::take_at;
@@ -13,7 +12,6 @@ ghost use Rattle.feed.specs.Entry.{fed, feedCall};
 pub use ask::Ask;
 pub use ask::read_ask;
 pub use entry::enter;
-pub use live::live_rows;
 pub use text::Line;
 pub use text::first_line;
 pub use text::last_line;

@@ -1,31 +1,27 @@
--- `feed::entry::enter` meets its contract: the journal count of the empty word is refused exactly as the journal book is, and else
--- it is the number of journals open, at most 16. Then each arm does what its entry asks for. Assumes nothing.
+-- `feed::entry::enter` meets its contract: the number of open journals is refused exactly as the entry is, and else it is at most
+-- 16. Then each arm does what its entry asks for. Assumes nothing.
 use mathlib.Core.Path.{sym, ap, _∙_}
 use Rattle.feed.specs.Entry.{enter}
 use Rattle.feed.specs.Asked.{asks}
-use Rattle.feed.proofs.EmptyCount.{entry-refused, entered, counted-few}
+use Rattle.feed.proofs.Entering.{entry-refused, entered, byte-enough}
 use borrow.Author.Needs.{needs}
-use native.Mathlib.Omega.{arith}
 use Rattle.feed.proofs.entry.enter.Statement.{statement}
 use Rattle.feed.proofs.entry.enter.Tie as tie
 
-slice-aggregate-journal-count : tie.Need-slice-aggregate-journal-count
-slice-aggregate-journal-count c = search needs
-
-journal-count-requires : tie.Need-journal-count-requires
-journal-count-requires c κs = search needs
+open-journals-requires : tie.Need-open-journals-requires
+open-journals-requires c κs = search needs
 
 same-length : tie.Need-same-length
 same-length c = search needs
 
 returns : tie.Need-returns
-returns c = entry-refused _ _ (c .before .journal-count .ensures) (c .if1 .taken) (c .before .before .before .before .before .before .args .rows .now) (c .before .before .before .before .before .before .args .number) (c .before .before .before .before .before .before .args .step)
-
-cast-entry-of : tie.Need-cast-entry-of
-cast-entry-of c = search needs
+returns c =
+    let told = c .before in
+    let a = told .before .before .before .before .args in
+    entry-refused _ _ (told .open-journals .ensures) (c .if1 .taken) (a .rows .now) (a .number) (a .step)
 
 entry-of-requires : tie.Need-entry-of-requires
-entry-of-requires c κs = omega (arith, counted-few _ _ (c .before .before .journal-count .ensures) (c .before .if1 .left))
+entry-of-requires c κs = byte-enough _ _ (c .before .open-journals .ensures)
 
 enum-told : tie.Need-enum-told
 enum-told c = search needs
@@ -55,8 +51,9 @@ returns-2 : tie.Need-returns-2
 unfolding enter
 returns-2 c =
     let asked = c .before .before in
-    let start = asked .before .before .before .before .before .before .before .before in
-    entered _ _ (asked .before .before .before .journal-count .ensures) (asked .before .before .if1 .left) _ (start .args .rows .now) (start .args .number) (start .args .step) (ap asks (sym (c .enum-told .given .1)) ∙ asked .entry-of .ensures)
+    let told = asked .before .before in
+    let a = told .before .before .before .before .args in
+    entered _ _ (told .open-journals .ensures) (asked .before .if1 .left) _ (a .rows .now) (a .number) (a .step) (ap asks (sym (c .enum-told .given .1)) ∙ asked .entry-of .ensures)
 
 same-length-3 : tie.Need-same-length-3
 same-length-3 c = search needs
@@ -67,9 +64,12 @@ same-length-4 c = search needs
 returns-3 : tie.Need-returns-3
 unfolding enter
 returns-3 c =
-    let asked = c .before .before .before .before .before .before .before .before .before .before in
-    let start = asked .before .before .before .before .before .before .before .before in
-    c .before .before .before .before .append .ensures ∙ entered _ _ (asked .before .before .before .journal-count .ensures) (asked .before .before .if1 .left) _ (start .args .rows .now) (start .args .number) (start .args .step) (ap asks (sym (c .before .before .before .before .before .before .before .before .s .given .1)) ∙ asked .entry-of .ensures)
+    let did = c .before .before .before .before in
+    let arm = did .before .before .before .before in
+    let asked = arm .before .before in
+    let told = asked .before .before in
+    let a = told .before .before .before .before .args in
+    did .append .ensures ∙ entered _ _ (told .open-journals .ensures) (asked .before .if1 .left) _ (a .rows .now) (a .number) (a .step) (ap asks (sym (arm .s .given .1)) ∙ asked .entry-of .ensures)
 
 same-length-5 : tie.Need-same-length-5
 same-length-5 c = search needs
@@ -80,9 +80,12 @@ same-length-6 c = search needs
 returns-4 : tie.Need-returns-4
 unfolding enter
 returns-4 c =
-    let asked = c .before .before .before .before .before .before .before .before .before in
-    let start = asked .before .before .before .before .before .before .before .before in
-    c .before .before .before .before .«open» .ensures ∙ entered _ _ (asked .before .before .before .journal-count .ensures) (asked .before .before .if1 .left) _ (start .args .rows .now) (start .args .number) (start .args .step) (ap asks (sym (c .before .before .before .before .before .before .before .enum-told2 .given .1)) ∙ asked .entry-of .ensures)
+    let did = c .before .before .before .before in
+    let arm = did .before .before .before in
+    let asked = arm .before .before in
+    let told = asked .before .before in
+    let a = told .before .before .before .before .args in
+    did .«open» .ensures ∙ entered _ _ (told .open-journals .ensures) (asked .before .if1 .left) _ (a .rows .now) (a .number) (a .step) (ap asks (sym (arm .enum-told2 .given .1)) ∙ asked .entry-of .ensures)
 
 same-length-7 : tie.Need-same-length-7
 same-length-7 c = search needs
@@ -93,19 +96,20 @@ same-length-8 c = search needs
 returns-5 : tie.Need-returns-5
 unfolding enter
 returns-5 c =
-    let asked = c .before .before .before .before .before .before .before .before .before .before in
-    let start = asked .before .before .before .before .before .before .before .before in
-    c .before .before .before .before .open-append-whole .ensures ∙ entered _ _ (asked .before .before .before .journal-count .ensures) (asked .before .before .if1 .left) _ (start .args .rows .now) (start .args .number) (start .args .step) (ap asks (sym (c .before .before .before .before .before .before .before .before .s2 .given .1)) ∙ asked .entry-of .ensures)
+    let did = c .before .before .before .before in
+    let arm = did .before .before .before .before in
+    let asked = arm .before .before in
+    let told = asked .before .before in
+    let a = told .before .before .before .before .args in
+    did .open-append-whole .ensures ∙ entered _ _ (told .open-journals .ensures) (asked .before .if1 .left) _ (a .rows .now) (a .number) (a .step) (ap asks (sym (arm .s2 .given .1)) ∙ asked .entry-of .ensures)
 
 pub enter-spec : {M : Type 1} → statement M
 enter-spec =
     tie.close
     (tie.spec
-    slice-aggregate-journal-count
-    journal-count-requires
+    open-journals-requires
     same-length
     returns
-    cast-entry-of
     entry-of-requires
     enum-told
     enum-known-s
