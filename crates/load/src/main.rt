@@ -42,15 +42,16 @@ fn answer(journals: &[u8], rows: &[u8]) {
         os::fail(b"ask.bin");
         return;
     }
+    // The count of the empty word is the greatest quorum, and the one that stands where none is asked.
     let counted = books::table_count(rows, &rows[..0]);
-    let k = counted.count as usize;
-    let ask = feed::read_ask(k, &file[..n]);
+    let most = counted.count as usize;
+    let ask = feed::read_ask(most, &file[..n]);
     let number = ask.number;
     if number != DONE {
         print_line(feed::refused_ask_line(number));
         return;
     }
-    print_list(journals, rows, k, ask);
+    print_list(journals, rows, ask);
 }
 
 // Loads the entries into books with no journal, and answers the ask if none was refused.

@@ -153,8 +153,10 @@ fn print_words(journals: &[u8], rows: &[u8], ask: Ask) -> Printed {
 }
 
 // Prints the list: the first line, the words, and the last line once every word was written.
-pub(crate) fn print_list(journals: &[u8], rows: &[u8], k: usize, ask: Ask) {
-    if !print_line(feed::first_line(k, feed::live_rows(rows))) {
+pub(crate) fn print_list(journals: &[u8], rows: &[u8], ask: Ask) {
+    let known = books::open_journals(journals);
+    let live = books::live_rows(journals, rows);
+    if !print_line(feed::first_line(known.journals, live.rows)) {
         return;
     }
     let printed = print_words(journals, rows, ask);

@@ -26,8 +26,8 @@ slice-aggregate-table-count c = search needs
 table-count-requires : tie.Need-table-count-requires
 table-count-requires c κs = search needs
 
-cast-k : tie.Need-cast-k
-cast-k c = search needs
+cast-most : tie.Need-cast-most
+cast-most c = search needs
 
 array-share-prefix-file : tie.Need-array-share-prefix-file
 array-share-prefix-file c = search needs
@@ -64,7 +64,7 @@ answer-spec =
     returns
     slice-aggregate-table-count
     table-count-requires
-    cast-k
+    cast-most
     array-share-prefix-file
     slice-aggregate-read-ask
     read-ask-requires
