@@ -1,5 +1,6 @@
 /*
- * Selquorin for C and C++: how many journals hold a word, and which words a quorum of them shares.
+ * Selquorin for C and C++: in how many journals a word is, and the words that a quorum has in
+ * common.
  *
  * The calls stand in libselquorin.a, which `rt staticlib selquorin` makes at the root of the
  * repository, as target/staticlib/libselquorin.a. It is for x86-64 Linux.
@@ -22,8 +23,8 @@
  * given. Calls with a further answer pack it into the same integer; the functions at the end of
  * this file take it apart.
  *
- * A step is a code 0 to 15. A word is a row of steps. It is in a journal when it is what is left of
- * it after some of its steps, or none, are struck out.
+ * Steps have the codes 0 to 15, and a word is a row of them. It is in a journal when it is what is
+ * left of it after some of its steps, or none, are struck out.
  */
 #ifndef SELQUORIN_H
 #define SELQUORIN_H
@@ -39,7 +40,7 @@ extern "C" {
 #define SELQUORIN_JOURNAL_BOOK 4096
 /* The bytes of a row book: 1,000 records of 64. */
 #define SELQUORIN_ROW_BOOK 64000
-/* The bytes of a word record: the length, 0 to 15, then the steps, zero beyond the length. */
+/* The bytes of a word record: one for the length, 15 for the steps and zeros behind them. */
 #define SELQUORIN_WORD_RECORD 16
 /* The bytes of a row record: 16 places, 16 arcs of two bytes, low byte first, the count, zeros. */
 #define SELQUORIN_ROW_RECORD 64
@@ -58,19 +59,19 @@ extern "C" {
 /* What each number says. */
 enum selquorin_number {
     SELQUORIN_DONE = 0,          /* done */
-    SELQUORIN_WRONG_SIZE = 1,    /* a book, a word record or the list's output has the wrong size */
+    SELQUORIN_WRONG_SIZE = 1,    /* wrong size of a book, the list's output or a word record */
     SELQUORIN_DAMAGED = 2,       /* the books are damaged; selquorin_check says where */
     SELQUORIN_WRONG_STEP = 3,    /* a step above 15 */
     SELQUORIN_NO_JOURNAL = 4,    /* append with no journal open */
     SELQUORIN_JOURNAL_FULL = 5,  /* the last journal has 200 steps */
-    SELQUORIN_ROWS_FULL = 6,     /* after the append there would be more than 1,000 live states */
+    SELQUORIN_ROWS_FULL = 6,     /* with this step there would be more than 1,000 rows */
     SELQUORIN_JOURNALS_FULL = 7, /* 16 journals are open already */
     SELQUORIN_WRONG_QUORUM = 8,  /* quorum below 1 or above the number of journals */
     SELQUORIN_WRONG_LENGTH = 9,  /* list length above 15 */
-    SELQUORIN_WRONG_WORD = 10,   /* a word record of wrong form, or longer than the list length */
+    SELQUORIN_WRONG_WORD = 10,   /* a word record lacks its form, or exceeds the list length */
     SELQUORIN_BROKEN_ENTRY = 11, /* the loading program only: a broken journal entry */
-    SELQUORIN_WRONG_ASK = 12,    /* the loading program only: an ask of 1 byte, or of 3 or more */
-    SELQUORIN_WRONG_ROW = 13     /* a row number of 1,000 or more */
+    SELQUORIN_WRONG_ASK = 12,    /* the loading program only: the ask has neither 0 nor 2 bytes */
+    SELQUORIN_WRONG_ROW = 13     /* no such row: they have the numbers 0 to 999 */
 };
 
 /* Clears the books: makes every byte of both zero, whatever they held. Refusals: 1. */
@@ -103,11 +104,11 @@ uint32_t selquorin_journal_count(const uint8_t *journals, size_t journals_length
                                  const uint8_t *word_record, size_t word_record_length);
 
 /*
- * Checks both books. With number 2 it says where the first fault is. Book 1, the journal book: the
- * first record of wrong form, or open after one that isn't; the byte is 0. Book 2, the row book: the
- * first row, and in it the first byte, that differs from what the journals give. Book 2, record
- * 1,000, byte 0: the journals have more than 1,000 live states. Records count from 0. With 0 or 1
- * all else is 0. Refusals: 1, 2.
+ * Checks both books. With number 2 it says where the first fault is. Book 1 is the journal book: a
+ * record there lacks its form, or is open though the one before it isn't; the byte is 0. Book 2 is
+ * the row book: that byte of that row isn't what the journals give. Book 2, record 1,000, byte 0:
+ * the journals have more than 1,000 live states. Records count from 0. Without number 2 there is no
+ * book, record or byte: they are 0. Refusals: 1, 2.
  * Packed: number + 2^8 * book + 2^16 * record + 2^32 * byte. See selquorin_checked_number,
  * selquorin_checked_book, selquorin_checked_record, selquorin_checked_byte.
  */
@@ -116,12 +117,12 @@ uint64_t selquorin_check(const uint8_t *journals, size_t journals_length, const 
 
 /*
  * Lists the words of up to `length` steps that are in at least `quorum` journals, in dictionary
- * order: a word stands before its extensions; otherwise the lower step at the first difference comes
- * first. If `after` is 0 it starts with the first word, else behind the word of the word record,
- * which need not be in the list itself. The word record's size is always tested, its content only
- * if `after` isn't 0. It writes one word record for each word, as many as fit or as remain; the
- * output's size is a multiple of 16, from 16 to 65,536, and its bytes after the last record stay.
- * To go on, call it again after the last word written. Refusals: 1, 2, 9, 8, 10.
+ * order: a word comes before the longer ones that begin with it, and where two words part, the
+ * lower step goes first. If `after` is 0 it starts with the first word, else behind the word of the
+ * word record, which need not be listed itself. A word record of 16 bytes is lent in either case,
+ * but read only if `after` isn't 0. It writes a word record for each word, until the output is full
+ * or the list ends. The output has room for 1 to 4,096 whole records, and stays as it is behind the
+ * last one written. To go on, call it again after the last word written. Refusals: 1, 2, 9, 8, 10.
  * Packed: number + 2^8 * more + 2^16 * written. See selquorin_listed_number, selquorin_listed_more,
  * selquorin_listed_written.
  */

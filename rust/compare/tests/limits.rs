@@ -48,8 +48,8 @@ fn words(pair: &Pair, answer: Answer) -> Vec<Vec<u8>> {
     records.map(|r| r[1..=usize::from(r[0])].to_vec()).collect()
 }
 
-/// "Four journals of 200 equal steps, each with its own step, and a fifth of 199 more with another
-/// give 1,000 rows; its 200th step is refused with 6."
+/// Journals that each repeat a step of their own have a row for each step, and one for the empty
+/// word: with 999 steps the row book is full.
 #[test]
 fn a_thousand_rows() {
     let mut pair = Pair::new();
@@ -80,7 +80,7 @@ fn a_thousand_rows() {
     }
 }
 
-/// "A journal at 199 steps takes one more; at 200 it is refused with 5."
+/// The 200th step of a journal is taken, the 201st is not.
 #[test]
 fn a_full_journal() {
     let mut pair = Pair::new();
@@ -153,7 +153,7 @@ fn all_outputs() {
     }
 }
 
-/// "Worked books", P1 to P7: the journals 1 2 1 and 1 1 2.
+/// "Worked books", P1 to P7.
 #[test]
 fn worked_books() {
     let mut pair = Pair::new();

@@ -1,19 +1,19 @@
-//! The calls of document 01, written straight from its sentences.
+//! The calls of document 01, written straight from its rules.
 //!
 //! This crate shares no code with the proved library or its wrapper. It is there to be compared
 //! with, so it prefers the plain way of saying a thing: journals as rows of steps, states as rows
 //! of places, the picture drawn anew each time. Every function answers for every input: wrong
-//! sizes and damaged bytes too. Each stands under the sentence of document 01 that it says.
+//! sizes and damaged bytes too. Names are the document's, so that its rules are found by them.
 
 use std::collections::{BTreeMap, BTreeSet};
 
-/// Journal book: 4,096 bytes.
+/// The bytes of a journal book.
 pub const JOURNAL_BOOK: usize = 4096;
-/// Row book: 64,000 bytes.
+/// The bytes of a row book.
 pub const ROW_BOOK: usize = 64_000;
-/// A word record is 16 bytes.
+/// The bytes of a word record.
 pub const WORD_RECORD: usize = 16;
-/// Row book: 1,000 records.
+/// The row records of a row book.
 pub const MOST_ROWS: usize = 1000;
 
 const JOURNAL_RECORD: usize = 256;
@@ -67,9 +67,7 @@ pub struct Listed {
 /// The places in a journal: from each place by each step.
 type Places = Vec<[u8; STEPS as usize]>;
 
-/// "The place of a word in a journal: .. take the place p of the word without its last step;
-/// the place is the least j above p whose step is the last step. It is 'lost' if there is none, or
-/// if p is lost. Places count from 1."
+/// From place p a step leads to the nearest place behind p that has this step, or is lost.
 ///
 /// Written from the journal's end: above the last place there is no step, and above p there is
 /// what is above p + 1, and the step p + 1 itself, which is nearer.
@@ -82,13 +80,12 @@ fn places(journal: &[u8]) -> Places {
     places
 }
 
-/// "A state is the row of k places of some word." As 16 bytes: "255 for lost, and 0 for a journal
-/// that isn't open". The empty word's places are 0.
+/// The empty word is at place 0 of every journal, and a journal that isn't open has that byte too.
 fn empty_state() -> State {
     [0; MOST_JOURNALS]
 }
 
-/// The state of a word with one step more.
+/// The state of a word with one step more: a place that is lost stays so.
 fn state_after(places: &[Places], state: &State, step: u8) -> State {
     let mut next = empty_state();
     for (i, places) in places.iter().enumerate() {
@@ -105,19 +102,18 @@ fn all_places(journals: &[Journal]) -> Vec<Places> {
     journals.iter().map(|journal| places(journal)).collect()
 }
 
-/// "The count, which is the number of open journals whose place isn't lost": journals, not distinct
-/// places.
+/// How many of the k journals hold the state's words: journals, not distinct places.
 fn state_count(k: usize, state: &State) -> usize {
     state[..k].iter().filter(|&&place| place != LOST).count()
 }
 
-/// "It is live when at least one place isn't lost. With k = 0 there is no live state."
+/// Whether a state is live: some journal's place isn't lost.
 fn is_live(k: usize, state: &State) -> bool {
     state_count(k, state) > 0
 }
 
-/// The live states, "in ascending order of the 16 place bytes, compared as unsigned numbers from
-/// byte 0 on"; none if there are more than 1,000. Those that a word reaches, and no others.
+/// The live states that some word reaches, the lower place byte first; none if there are more than
+/// 1,000. A lost place is 255, so it comes last.
 pub fn live_states(journals: &[Journal]) -> Option<Vec<State>> {
     let k = journals.len();
     let places = all_places(journals);
@@ -143,8 +139,8 @@ pub fn live_states(journals: &[Journal]) -> Option<Vec<State>> {
 
 // ---------------------------------------------------------------- the two books
 
-/// "The picture of k journals: one row record for each live state, no state twice, in ascending
-/// order ..; every later record all zero." None with more than 1,000 live states.
+/// The picture of some journals: their live states in order, a row record each, and zeros behind.
+/// None if the row book is too small for them.
 pub fn picture(journals: &[Journal]) -> Option<Vec<u8>> {
     let k = journals.len();
     let states = live_states(journals)?;
@@ -152,25 +148,21 @@ pub fn picture(journals: &[Journal]) -> Option<Vec<u8>> {
     let row_of: BTreeMap<State, usize> = states.iter().copied().zip(0..).collect();
     let mut book = vec![0; ROW_BOOK];
     for (state, record) in states.iter().zip(book.chunks_exact_mut(ROW_RECORD)) {
-        // "bytes 0 to 15 the places, one byte each"
         record[..16].copy_from_slice(state);
         for step in 0..STEPS {
-            // "The arc of a row under step s is the row number of the state reached by s, and 0 if
-            // that state isn't live."
+            // A state that has no row isn't live: its arc is 0.
             let next = state_after(&places, state, step);
             let arc = row_of.get(&next).copied().unwrap_or(0) as u16;
-            // "bytes 16 to 47 the arcs by step, two bytes each, low byte first"
             let at = 16 + 2 * step as usize;
             record[at..at + 2].copy_from_slice(&arc.to_le_bytes());
         }
-        // "byte 48 the count"; "bytes 49 to 63 zero"
         record[48] = state_count(k, state) as u8;
     }
     Some(book)
 }
 
-/// "Byte 0: 1 open, 0 not. Byte 1: length, 0 to 200. Bytes 2 to 201: the steps, zero beyond the
-/// length. Bytes 202 to 255: zero. .. A record that isn't open is all zero."
+/// Whether a journal record has its form: the mark, the length, as many steps, and zeros; or zeros
+/// alone.
 fn journal_record_has_form(record: &[u8]) -> bool {
     let length = record[1] as usize;
     match record[0] {
@@ -184,7 +176,7 @@ fn journal_record_has_form(record: &[u8]) -> bool {
     }
 }
 
-/// "Book 1: the first journal record of wrong form, or open after one that isn't."
+/// The record that the check names in book 1: none before it is wrong.
 fn first_wrong_journal_record(book: &[u8]) -> Option<usize> {
     let mut one_is_shut = false;
     for (i, record) in book.chunks_exact(JOURNAL_RECORD).enumerate() {
@@ -196,7 +188,7 @@ fn first_wrong_journal_record(book: &[u8]) -> Option<usize> {
     None
 }
 
-/// "The open records are the first k." The journals of a book that has its form.
+/// The journals of a book that has its form.
 fn journals_of(book: &[u8]) -> Vec<Journal> {
     book.chunks_exact(JOURNAL_RECORD)
         .filter(|record| record[0] == 1)
@@ -215,20 +207,19 @@ pub fn journal_book(journals: &[Journal]) -> Vec<u8> {
     book
 }
 
-/// "A book .. has the wrong size."
+/// Whether a book has more or fewer bytes than it should.
 fn wrong_sizes(journals: &[u8], rows: &[u8]) -> bool {
     journals.len() != JOURNAL_BOOK || rows.len() != ROW_BOOK
 }
 
-/// "Books are sound when the journal book has the form above, its journals have at most 1,000 live
-/// states, and the row book is their picture."
+/// Whether the books are sound: the check finds no fault in them.
 fn is_sound(journals: &[u8], rows: &[u8]) -> bool {
     check(journals, rows).number == 0
 }
 
 // ---------------------------------------------------------------- the calls on the books
 
-/// "Clear makes every byte of both books zero." Order: 1.
+/// Clear: nothing but zeros in both books. Order: 1.
 pub fn clear(journals: &mut [u8], rows: &mut [u8]) -> u8 {
     if wrong_sizes(journals, rows) {
         return 1;
@@ -238,7 +229,7 @@ pub fn clear(journals: &mut [u8], rows: &mut [u8]) -> u8 {
     0
 }
 
-/// "Open adds an empty journal behind the others." Order: 1, 2, 7.
+/// Open: one journal more, the last, without a step. Order: 1, 2, 7.
 pub fn open(journals: &mut [u8], rows: &mut [u8]) -> u8 {
     if wrong_sizes(journals, rows) {
         return 1;
@@ -257,7 +248,7 @@ pub fn open(journals: &mut [u8], rows: &mut [u8]) -> u8 {
     0
 }
 
-/// "Append (adds) one step at the last journal's end." Order: 1, 2, 3, 4, 5, 6.
+/// Append: the last journal gets one step more. Order: 1, 2, 3, 4, 5, 6.
 pub fn append(journals: &mut [u8], rows: &mut [u8], step: u8) -> u8 {
     if wrong_sizes(journals, rows) {
         return 1;
@@ -284,8 +275,8 @@ pub fn append(journals: &mut [u8], rows: &mut [u8], step: u8) -> u8 {
     0
 }
 
-/// "Check answers 1 for size, else 0, or 2 with a book and a record. .. Book 1 is judged first,
-/// and book 2 only if book 1 has its form."
+/// Check: the first fault, looked for in the journal book, and in the row book if there is none.
+/// Order: 1, 2.
 pub fn check(journals: &[u8], rows: &[u8]) -> Checked {
     let answer = |number, book, record, byte| Checked {
         number,
@@ -296,15 +287,13 @@ pub fn check(journals: &[u8], rows: &[u8]) -> Checked {
     if wrong_sizes(journals, rows) {
         return answer(1, 0, 0, 0);
     }
-    // "With book 1 the byte is 0."
     if let Some(record) = first_wrong_journal_record(journals) {
         return answer(2, 1, record, 0);
     }
-    // "With more than 1,000 live states it says book 2, record 1,000, byte 0."
+    // Journals without a picture are told by a record that no row book has.
     let Some(drawn) = picture(&journals_of(journals)) else {
         return answer(2, 2, MOST_ROWS, 0);
     };
-    // "Book 2: the first row, and in it the first byte, that differs from the picture."
     match (0..ROW_BOOK).find(|&at| rows[at] != drawn[at]) {
         Some(at) => answer(2, 2, at / ROW_RECORD, at % ROW_RECORD),
         None => answer(0, 0, 0, 0),
@@ -320,18 +309,17 @@ fn row_arc(rows: &[u8], row: usize, step: u8) -> usize {
     u16::from_le_bytes([rows[at], rows[at + 1]]) as usize
 }
 
-/// "Table count reads the row book only and takes a word of any length." Order: 1, 3, 2.
+/// Table count: along the arcs from row 0, for every content of the row book. Order: 1, 3, 2.
 pub fn table_count(rows: &[u8], word: &[u8]) -> Counted {
     let refused = |number| Counted { number, count: 0 };
     let found = |count| Counted { number: 0, count };
     if rows.len() != ROW_BOOK {
         return refused(1);
     }
-    // "All steps are tested first."
     if word.iter().any(|&step| step >= STEPS) {
         return refused(3);
     }
-    // "It starts at row 0; a count byte there above 16 is 2, a count byte of 0 gives the answer 0."
+    // Row 0 may have the count 0, where there is no journal; a row at an arc's end may not.
     let mut row = 0;
     match row_count(rows, row) {
         0 => return found(0),
@@ -339,27 +327,22 @@ pub fn table_count(rows: &[u8], word: &[u8]) -> Counted {
         _ => return refused(2),
     }
     for &step in word {
-        // "For each step the arc is read: 0 gives the answer 0 at once"
         let arc = row_arc(rows, row, step);
         if arc == 0 {
             return found(0);
         }
-        // "an arc not above the present row, or of 1,000 or more, is 2"
         if arc <= row || arc >= MOST_ROWS {
             return refused(2);
         }
-        // "so is a count byte at the arc's end that is 0 or above 16"
         if !(1..=16).contains(&row_count(rows, arc)) {
             return refused(2);
         }
         row = arc;
     }
-    // "The answer is the last row's count byte."
     found(row_count(rows, row))
 }
 
-/// "A word record is 16 bytes: the length, 0 to 15, then the steps, zero beyond the length. A step
-/// above 15 makes its form wrong." The word of 16 bytes, if they have that form.
+/// The word of a word record of 16 bytes, if it has its form.
 fn word_of(record: &[u8]) -> Option<&[u8]> {
     let length = record[0] as usize;
     if length > 15 {
@@ -370,8 +353,7 @@ fn word_of(record: &[u8]) -> Option<&[u8]> {
     right.then_some(word)
 }
 
-/// "The empty word is in, and another is in when its first step is found and the rest is in what
-/// follows."
+/// Whether a word is in a journal: its first step is taken as early as it can be, then the others.
 fn is_in(word: &[u8], journal: &[u8]) -> bool {
     let Some((first, rest)) = word.split_first() else {
         return true;
@@ -382,8 +364,7 @@ fn is_in(word: &[u8], journal: &[u8]) -> bool {
     }
 }
 
-/// "The journal count reads the journal book only and gives 2 exactly when that book lacks its
-/// form." Order: 1, 10, 2.
+/// Journal count: a word is looked for in each journal, without the table. Order: 1, 10, 2.
 pub fn journal_count(journals: &[u8], record: &[u8]) -> Counted {
     let refused = |number| Counted { number, count: 0 };
     if journals.len() != JOURNAL_BOOK || record.len() != WORD_RECORD {
@@ -405,7 +386,7 @@ pub fn journal_count(journals: &[u8], record: &[u8]) -> Counted {
     }
 }
 
-/// "Its number comes from a second call with the same input." Order: 1, 13.
+/// The number that goes with a row record. Order: 1, 13.
 pub fn row_record_number(rows: &[u8], row: usize) -> u8 {
     if rows.len() != ROW_BOOK {
         1
@@ -416,8 +397,7 @@ pub fn row_record_number(rows: &[u8], row: usize) -> u8 {
     }
 }
 
-/// "Row record gives back those 64 bytes of the caller's row book themselves; a refusal gives back
-/// a part of length 0."
+/// Row record: a part of the row book, empty where it is refused.
 pub fn row_record(rows: &[u8], row: usize) -> &[u8] {
     if row_record_number(rows, row) != 0 {
         return &[];
@@ -479,9 +459,9 @@ impl Walk {
         false
     }
 
-    /// "A word stands before its extensions; otherwise the lower step at the first difference comes
-    /// first. A word moves to its next word in this order among those the quorum admits." False at
-    /// the end of the list. The word itself need not be admitted: then none of its extensions is.
+    /// Moves to the next admitted word: one step longer if there is such a one, else a higher step as
+    /// far behind as can be. False at the end of the list. The word itself need not be admitted: then
+    /// none of its extensions is.
     fn next(&mut self) -> bool {
         if self.word.len() < self.length && self.extend_from(0) {
             return true;
@@ -495,8 +475,8 @@ impl Walk {
     }
 }
 
-/// "The call takes a quorum, a length, 'from the start' or 'after this word', a word record (its
-/// size is always tested, its content only for 'after') and an output." Order: 1, 2, 9, 8, 10.
+/// List: the admitted words, from the first on or after a word, as far as the output takes them.
+/// Order: 1, 2, 9, 8, 10.
 #[allow(clippy::too_many_arguments)]
 pub fn list(
     journals: &[u8],
@@ -512,7 +492,6 @@ pub fn list(
         written: 0,
         more: false,
     };
-    // "output: a multiple of 16, from 16 to 65,536"
     let out_fits = out.len().is_multiple_of(WORD_RECORD) && (16..=65_536).contains(&out.len());
     if wrong_sizes(journals, rows) || record.len() != WORD_RECORD || !out_fits {
         return refused(1);
@@ -540,9 +519,7 @@ pub fn list(
         // The empty word is in every journal, so it is the list's first.
         true
     };
-    // "It writes the first words of the list from there on, one record each, as many as fit or as
-    // remain. Every word is written into its own 16 bytes of the output; bytes after the last one
-    // stay."
+    // Only as much of the output is written as there are words for it.
     let mut written = 0;
     for place in out.chunks_exact_mut(WORD_RECORD) {
         if !there {
@@ -554,7 +531,6 @@ pub fn list(
         written += 1;
         there = walk.next();
     }
-    // "It answers how many it wrote and whether a further word remains."
     Listed {
         number: 0,
         written,

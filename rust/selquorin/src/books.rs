@@ -27,12 +27,12 @@ pub struct Books {
 pub enum Verdict {
     /// The journal book has its form, and the row book is its picture.
     Sound,
-    /// The first journal record of wrong form, or open after one that isn't.
+    /// A journal record lacks its form, or is open though the one before it isn't.
     JournalRecord {
-        /// Its number, 0 to 15.
+        /// Its number, 0 to 15: no record before it is wrong.
         record: usize,
     },
-    /// The first row, and in it the first byte, that differs from the picture.
+    /// A byte of a row isn't what the journals give, and none before it is wrong.
     RowRecord {
         /// The row's number, 0 to 999.
         row: usize,
@@ -130,8 +130,8 @@ impl Books {
         ))
     }
 
-    /// In how many journals a word is, by the table: one look for each step. It reads the row book
-    /// only, and takes a word of any length.
+    /// In how many journals a word is, by the row book alone: one look at the table for each step.
+    /// The word may have any length.
     ///
     /// # Errors
     ///

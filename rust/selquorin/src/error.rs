@@ -5,7 +5,7 @@ use std::fmt;
 /// Why a call was refused. A refused call has changed nothing.
 #[derive(Clone, Copy, Debug, PartialEq, Eq, Hash)]
 pub enum Error {
-    /// 1: a book, a word record or the list's output has the wrong size.
+    /// 1: wrong size of a book, the list's output or a word record.
     WrongSize,
     /// 2: the books are damaged. [`Books::check`](crate::Books::check) says where.
     Damaged,
@@ -15,7 +15,7 @@ pub enum Error {
     NoJournal,
     /// 5: the last journal has 200 steps.
     JournalFull,
-    /// 6: after the append there would be more than 1,000 live states.
+    /// 6: with this step there would be more than 1,000 rows.
     RowsFull,
     /// 7: 16 journals are open already.
     JournalsFull,
@@ -23,13 +23,13 @@ pub enum Error {
     WrongQuorum,
     /// 9: the list length is above 15.
     WrongLength,
-    /// 10: a word record of wrong form, or longer than the list length.
+    /// 10: a word record lacks its form, or exceeds the list length.
     WrongWord,
     /// 11: a broken journal entry. Only the loading program gives it.
     BrokenEntry,
-    /// 12: an ask file of 1 byte, or of 3 or more. Only the loading program gives it.
+    /// 12: the ask file has neither 0 nor 2 bytes. Only the loading program gives it.
     WrongAsk,
-    /// 13: a row number of 1,000 or more.
+    /// 13: no such row: they have the numbers 0 to 999.
     WrongRow,
 }
 
@@ -66,18 +66,18 @@ impl Error {
 impl fmt::Display for Error {
     fn fmt(&self, f: &mut fmt::Formatter<'_>) -> fmt::Result {
         f.write_str(match self {
-            Error::WrongSize => "a book, a word record or the list's output has the wrong size",
+            Error::WrongSize => "wrong size of a book, the list's output or a word record",
             Error::Damaged => "the books are damaged: check says where",
             Error::WrongStep => "a step's code is above 15",
             Error::NoJournal => "no journal is open that the step could be appended to",
             Error::JournalFull => "the last journal is full: it has 200 steps",
-            Error::RowsFull => "no room: with this step there would be more than 1,000 live states",
+            Error::RowsFull => "no room: with this step there would be more than 1,000 rows",
             Error::JournalsFull => "no room: 16 journals are open already",
             Error::WrongQuorum => "the quorum is not between 1 and the number of journals",
             Error::WrongLength => "the list's length is above 15",
             Error::WrongWord => "the word is not well formed, or is longer than asked for",
             Error::BrokenEntry => "a journal entry is broken",
-            Error::WrongAsk => "the ask file has 1 byte, or 3 or more",
+            Error::WrongAsk => "the ask file has neither 0 nor 2 bytes",
             Error::WrongRow => "there is no such row: rows have the numbers 0 to 999",
         })
     }

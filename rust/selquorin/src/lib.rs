@@ -1,9 +1,10 @@
-//! How many journals hold a word, and which words a quorum of them shares.
+//! In how many journals a word is, and the words that a quorum has in common.
 //!
 //! Up to 16 journals, each a row of up to 200 steps, stand in [`Books`]: a journal book and a row
-//! book, which holds the journals' subsequence automaton as a table. A word is *in* a journal when
-//! it is what is left of it after some of its steps, or none, are struck out. The books answer in
-//! how many journals a word is, and list the words that at least a given number of journals hold.
+//! book, which holds the journals' subsequence automaton as a table. A journal holds a word, and the
+//! word is *in* it, when striking out some of the journal's steps, or none, leaves the word. The
+//! books answer in how many journals a word is, and list the words that at least a given number of
+//! journals hold.
 //!
 //! The calls themselves are proved and come from the static library `libselquorin.a`. This crate
 //! only lends it memory: [`Books`], [`Word`]s and [`Step`]s have right sizes and codes once they are
@@ -14,7 +15,7 @@
 //! use selquorin::{Books, Error, Step, Verdict, Word};
 //!
 //! # fn main() -> Result<(), Error> {
-//! // Two journals: 1 2 1 and 1 1 2.
+//! // Two journals of three steps each.
 //! let mut books = Books::new();
 //! for journal in [[1, 2, 1], [1, 1, 2]] {
 //!     books.open()?;

@@ -52,8 +52,8 @@ impl fmt::Display for Step {
 
 /// A word that fits a word record: 0 to 15 steps.
 ///
-/// Words compare in dictionary order, as in the list: a word stands before its extensions;
-/// otherwise the lower step at the first difference comes first.
+/// Words compare in dictionary order, as in the list: a word comes before the longer ones that begin
+/// with it, and where two words part, the lower step goes first.
 #[derive(Clone, Copy)]
 pub struct Word {
     steps: [Step; LONGEST_WORD],
