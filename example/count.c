@@ -1,5 +1,6 @@
 /*
- * The library from C: two journals, the count of a word, and the words that both journals hold.
+ * The library from C: two journals, how many rows they have, the count of a word, and the words
+ * that both journals hold.
  *
  * At the root of the repository:
  *
@@ -51,6 +52,17 @@ int main(void) {
     if (number != SELQUORIN_DONE) {
         return refused("the journals", number);
     }
+
+    uint32_t open = selquorin_journals(journals, sizeof journals);
+    if (selquorin_found_number(open) != SELQUORIN_DONE) {
+        return refused("journals", selquorin_found_number(open));
+    }
+    uint32_t live = selquorin_rows(journals, sizeof journals, rows, sizeof rows);
+    if (selquorin_found_number(live) != SELQUORIN_DONE) {
+        return refused("rows", selquorin_found_number(live));
+    }
+    printf("%u journals, %u rows\n", (unsigned)selquorin_found(open),
+           (unsigned)selquorin_found(live));
 
     uint32_t counted = selquorin_table_count(rows, sizeof rows, word, sizeof word);
     if (selquorin_counted_number(counted) != SELQUORIN_DONE) {

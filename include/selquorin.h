@@ -104,6 +104,21 @@ uint32_t selquorin_journal_count(const uint8_t *journals, size_t journals_length
                                  const uint8_t *word_record, size_t word_record_length);
 
 /*
+ * How many journals are open, by the journal book alone. Number 2 means that the journal book lacks
+ * its form. Refusals: 1, 2.
+ * Packed: number + 256 * journals. See selquorin_found_number, selquorin_found.
+ */
+uint32_t selquorin_journals(const uint8_t *journals, size_t journals_length);
+
+/*
+ * How many rows are live: one for each live state of the journals, from row 0 on. It needs sound
+ * books, and looks at both whole. Refusals: 1, 2.
+ * Packed: number + 256 * rows. See selquorin_found_number, selquorin_found.
+ */
+uint32_t selquorin_rows(const uint8_t *journals, size_t journals_length, const uint8_t *rows,
+                        size_t rows_length);
+
+/*
  * Checks both books. With number 2 it says where the first fault is. Book 1 is the journal book: a
  * record there lacks its form, or is open though the one before it isn't; the byte is 0. Book 2 is
  * the row book: that byte of that row isn't what the journals give. Book 2, record 1,000, byte 0:
@@ -148,6 +163,18 @@ static inline uint8_t selquorin_counted_number(uint32_t packed) {
 /* In how many journals the word is; 0 with a refusal. */
 static inline uint8_t selquorin_counted(uint32_t packed) {
     return (uint8_t)(packed >> 8 & 255u);
+}
+
+/* The parts of what selquorin_journals and selquorin_rows answer. */
+
+/* The number. */
+static inline uint8_t selquorin_found_number(uint32_t packed) {
+    return (uint8_t)(packed & 255u);
+}
+
+/* How many journals are open, or how many rows are live; 0 with a refusal. */
+static inline uint32_t selquorin_found(uint32_t packed) {
+    return packed >> 8;
 }
 
 /* The parts of what selquorin_check answers. */

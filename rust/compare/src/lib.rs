@@ -35,6 +35,10 @@ pub enum Call {
     TableCount(Vec<u8>),
     /// Count the word of a word record by the journals.
     JournalCount(Vec<u8>),
+    /// The number of open journals.
+    OpenJournals,
+    /// The number of live rows.
+    LiveRows,
     /// Check.
     Check,
     /// List.
@@ -64,6 +68,8 @@ impl fmt::Debug for Call {
             Call::Append(step) => write!(f, "append {step}"),
             Call::TableCount(word) => write!(f, "table count of {word:?}"),
             Call::JournalCount(record) => write!(f, "journal count of record {record:?}"),
+            Call::OpenJournals => write!(f, "open journals"),
+            Call::LiveRows => write!(f, "live rows"),
             Call::Check => write!(f, "check"),
             Call::List {
                 quorum,
@@ -87,7 +93,7 @@ impl fmt::Debug for Call {
 pub struct Answer {
     /// The number of document 01.
     pub number: u8,
-    /// Count; or book; or 1 where a further word remains.
+    /// Count; or how many journals or rows; or book; or 1 where a further word remains.
     pub first: usize,
     /// Record; or how many words were written; or the length of the row record.
     pub second: usize,
@@ -169,6 +175,15 @@ macro_rules! made_by {
             Call::JournalCount(record) => {
                 let answer = $module::journal_count($side.read(sizes).0, record);
                 Answer::new(answer.number, answer.count.into(), 0, 0)
+            }
+            Call::OpenJournals => {
+                let answer = $module::open_journals($side.read(sizes).0);
+                Answer::new(answer.number, answer.journals, 0, 0)
+            }
+            Call::LiveRows => {
+                let (journals, rows) = $side.read(sizes);
+                let answer = $module::live_rows(journals, rows);
+                Answer::new(answer.number, answer.rows, 0, 0)
             }
             Call::Check => {
                 let (journals, rows) = $side.read(sizes);

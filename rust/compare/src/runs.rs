@@ -16,6 +16,8 @@ impl Seen {
             Call::Append(_) => "append",
             Call::TableCount(_) => "table count",
             Call::JournalCount(_) => "journal count",
+            Call::OpenJournals => "open journals",
+            Call::LiveRows => "live rows",
             Call::Check => "check",
             Call::List { after: 0, .. } => "list from the start",
             Call::List { .. } => "list after a word",
@@ -40,9 +42,9 @@ impl Seen {
         }
     }
 
-    /// Every answer that document 01 allows and that has not been seen.
+    /// Every number that a call may answer and that has not been seen.
     pub fn missing(&self) -> Vec<&'static str> {
-        const ALL: [&str; 43] = [
+        const ALL: [&str; 49] = [
             "clear: 0",
             "clear: 1",
             "open: 0",
@@ -64,6 +66,12 @@ impl Seen {
             "journal count: 1",
             "journal count: 2",
             "journal count: 10",
+            "open journals: 0",
+            "open journals: 1",
+            "open journals: 2",
+            "live rows: 0",
+            "live rows: 1",
+            "live rows: 2",
             "check: 0",
             "check: 1",
             "check: 2, book 1",
@@ -268,15 +276,17 @@ impl Run {
     fn some_call(&mut self) -> Result<(), Difference> {
         match self.random.below(100) {
             0..=39 => self.change(),
-            40..=54 => {
+            40..=52 => {
                 let word = self.word();
                 self.call(Call::TableCount(word)).map(drop)
             }
-            55..=69 => {
+            53..=65 => {
                 let record = self.record();
                 self.call(Call::JournalCount(record)).map(drop)
             }
-            70..=77 => self.call(Call::Check).map(drop),
+            66..=68 => self.call(Call::OpenJournals).map(drop),
+            69..=71 => self.call(Call::LiveRows).map(drop),
+            72..=77 => self.call(Call::Check).map(drop),
             78..=93 => {
                 let list = self.list();
                 self.call(list).map(drop)
@@ -297,12 +307,12 @@ impl Run {
     fn change(&mut self) -> Result<(), Difference> {
         let journals = self.journals();
         let steps = journals.last().map_or(0, Vec::len);
-        let is_sound = self.sound.is_none();
-        let full = journals.len() >= self.kind.journals && steps >= self.kind.steps;
-        let many_rows = (0..1000).any(|row| row >= 150 && self.pair.book(1)[64 * row + 48] != 0);
-        let done = (full && self.random.once_in(3)) || many_rows || self.random.once_in(200);
-        if is_sound && !self.large && done {
-            return self.call(Call::Clear).map(drop);
+        if self.sound.is_none() && !self.large {
+            let full = journals.len() >= self.kind.journals && steps >= self.kind.steps;
+            let done = (full && self.random.once_in(3)) || self.random.once_in(200);
+            if done || self.live_rows() > 150 {
+                return self.call(Call::Clear).map(drop);
+            }
         }
         let opens = journals.is_empty() || steps >= self.kind.steps;
         let call = match self.random.below(20) {
@@ -324,6 +334,11 @@ impl Run {
                 .below(self.kind.codes + self.random.clone().below(2)),
         };
         (code % 16) as u8
+    }
+
+    /// How many rows are live; 0 while the books are damaged.
+    fn live_rows(&self) -> usize {
+        plain::live_rows(self.pair.book(0), self.pair.book(1)).rows
     }
 
     /// The journals, as far as the journal book can be read.
@@ -471,10 +486,7 @@ impl Run {
 
     /// Damages the books in one of several ways. Some of these leave them sound by chance.
     fn damage(&mut self) -> Result<(), Difference> {
-        let live = (0..1000)
-            .take_while(|row| self.pair.book(1)[64 * row + 48] != 0)
-            .count()
-            .max(1);
+        let live = self.live_rows().max(1);
         match self.random.below(16) {
             // Some bytes anywhere.
             0 | 1 => {

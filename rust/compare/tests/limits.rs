@@ -18,10 +18,12 @@ fn journal(pair: &mut Pair, steps: &[u8]) {
     }
 }
 
-/// How many rows are live: those whose count isn't 0.
-fn live(pair: &Pair) -> usize {
-    let rows = pair.book(1).chunks_exact(64);
-    rows.filter(|row| row[48] != 0).count()
+/// How many journals are open and how many rows are live; both calls have to be done.
+fn open_and_live(pair: &mut Pair) -> (usize, usize) {
+    let open = call(pair, Call::OpenJournals);
+    let live = call(pair, Call::LiveRows);
+    assert_eq!((open.number, live.number), (0, 0));
+    (open.first, live.first)
 }
 
 fn record(word: &[u8]) -> Vec<u8> {
@@ -58,17 +60,17 @@ fn a_thousand_rows() {
         assert_eq!(call(&mut pair, Call::Append(code)).number, 5);
     }
     journal(&mut pair, &[4; 199]);
-    assert_eq!(live(&pair), 1000);
+    assert_eq!(open_and_live(&mut pair), (5, 1000));
     assert_eq!(call(&mut pair, Call::Check).number, 0);
     assert_eq!(call(&mut pair, Call::Append(4)).number, 6);
-    assert_eq!(live(&pair), 1000);
+    assert_eq!(open_and_live(&mut pair), (5, 1000));
     // A sixth, empty one adds no row, nor do steps that the first journal has too: where its state
     // was reached, the sixth's place changes from lost. A step of its own would add a row.
     journal(&mut pair, &[]);
     assert_eq!(call(&mut pair, Call::Append(9)).number, 6);
     assert_eq!(call(&mut pair, Call::Append(0)).number, 0);
     assert_eq!(call(&mut pair, Call::Append(0)).number, 0);
-    assert_eq!(live(&pair), 1000);
+    assert_eq!(open_and_live(&mut pair), (6, 1000));
     assert_eq!(call(&mut pair, Call::Check).number, 0);
     for number in [0, 998, 999, 1000, usize::MAX] {
         let wanted = if number < 1000 { 0 } else { 13 };
@@ -87,7 +89,7 @@ fn a_full_journal() {
     let steps: Vec<u8> = (0..199).map(|i| (i * 7 % 16) as u8).collect();
     journal(&mut pair, &steps);
     assert_eq!(call(&mut pair, Call::Append(15)).number, 0);
-    assert_eq!(live(&pair), 201);
+    assert_eq!(open_and_live(&mut pair), (1, 201));
     assert_eq!(call(&mut pair, Call::Append(15)).number, 5);
     assert_eq!(call(&mut pair, Call::Append(16)).number, 3);
     // It is the last journal that counts.
@@ -99,12 +101,14 @@ fn a_full_journal() {
 fn sixteen_journals() {
     let mut pair = Pair::new();
     for number in 0..16 {
+        assert_eq!(open_and_live(&mut pair), (number, number.min(1)));
         assert_eq!(call(&mut pair, Call::Open).number, 0, "journal {number}");
     }
-    assert_eq!(live(&pair), 1);
+    assert_eq!(open_and_live(&mut pair), (16, 1));
     assert_eq!(call(&mut pair, Call::Open).number, 7);
     assert_eq!(call(&mut pair, Call::Append(3)).number, 0);
     assert_eq!(call(&mut pair, Call::Open).number, 7);
+    assert_eq!(open_and_live(&mut pair), (16, 2));
     let answer = call(&mut pair, Call::JournalCount(record(&[])));
     assert_eq!((answer.number, answer.first), (0, 16));
 }
@@ -159,7 +163,7 @@ fn worked_books() {
     let mut pair = Pair::new();
     journal(&mut pair, &[1, 2, 1]);
     journal(&mut pair, &[1, 1, 2]);
-    assert_eq!(live(&pair), 6);
+    assert_eq!(open_and_live(&mut pair), (2, 6));
     let lost = 255;
     let rows = [
         ([0, 0], 2, vec![(1, 1), (2, 2)]),
@@ -208,16 +212,58 @@ fn worked_books() {
 fn small_worked_books() {
     let mut pair = Pair::new();
     let answer = call(&mut pair, Call::TableCount(vec![]));
-    assert_eq!((answer.number, answer.first, live(&pair)), (0, 0, 0));
+    assert_eq!((answer.number, answer.first), (0, 0));
+    assert_eq!(open_and_live(&mut pair), (0, 0));
     assert_eq!(call(&mut pair, Call::Append(1)).number, 4);
     assert_eq!(call(&mut pair, list(1, 3, 16)).number, 8);
     journal(&mut pair, &[]);
-    assert_eq!(live(&pair), 1);
+    assert_eq!(open_and_live(&mut pair), (1, 1));
     assert_eq!(pair.book(1)[48], 1);
     assert_eq!(call(&mut pair, Call::Clear).number, 0);
     journal(&mut pair, &[1, 1]);
     journal(&mut pair, &[]);
-    assert_eq!(live(&pair), 3);
+    assert_eq!(open_and_live(&mut pair), (2, 3));
     assert_eq!(call(&mut pair, Call::Append(1)).number, 0);
-    assert_eq!(live(&pair), 3);
+    assert_eq!(open_and_live(&mut pair), (2, 3));
+}
+
+/// The open journals need the journal book's form alone, the live rows sound books.
+#[test]
+fn open_journals_and_live_rows_of_wrong_books() {
+    let mut sound = Pair::new();
+    journal(&mut sound, &[1, 2, 1]);
+    journal(&mut sound, &[1, 1, 2]);
+    let numbers = |pair: &mut Pair| {
+        [Call::OpenJournals, Call::LiveRows].map(|asked| {
+            let answer = call(pair, asked);
+            assert!(answer.number == 0 || answer.first == 0);
+            answer.number
+        })
+    };
+    for (sizes, wanted) in [
+        ([4096, 64_000], [0, 0]),
+        ([4095, 64_000], [1, 1]),
+        ([4097, 64_000], [1, 1]),
+        ([4096, 63_999], [0, 1]),
+        ([4096, 64_001], [0, 1]),
+        ([0, 0], [1, 1]),
+    ] {
+        let mut pair = sound.clone();
+        pair.sizes = sizes;
+        assert_eq!(numbers(&mut pair), wanted, "books of {sizes:?} bytes");
+    }
+    // A third journal too many, a gap before it, a step above 15, a count, an arc, a row too many.
+    for (book, at, byte, wanted) in [
+        (0, 256 * 2, 1, [0, 2]),
+        (0, 256 * 3, 1, [2, 2]),
+        (0, 256 + 2, 16, [2, 2]),
+        (1, 48, 3, [0, 2]),
+        (1, 64 * 5 + 16, 1, [0, 2]),
+        (1, 64 * 6 + 63, 1, [0, 2]),
+        (1, 63_999, 1, [0, 2]),
+    ] {
+        let mut pair = sound.clone();
+        pair.poke(book, at, byte);
+        assert_eq!(numbers(&mut pair), wanted, "book {book}, byte {at}");
+    }
 }

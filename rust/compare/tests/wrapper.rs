@@ -60,6 +60,11 @@ fn pages_make_the_whole_list() {
             (&journals[..], &rows[..])
         );
         assert_eq!(books.check(), Verdict::Sound);
+        assert_eq!(books.open_journals(), Ok(k));
+        assert_eq!(
+            books.live_rows(),
+            Ok(plain::live_rows(&journals, &rows).rows)
+        );
         for quorum in 1..=k {
             for length in [0, 1, 2, 4, 15] {
                 let wanted = plain_list(&journals, &rows, quorum, length, None);
@@ -146,6 +151,7 @@ fn a_full_row_book_takes_no_step_more() {
     let rows = picture(&journals).expect("there are 1,000 states");
     let mut books = Books::from_bytes(&journal_book(&journals), &rows).unwrap();
     assert_eq!(books.check(), Verdict::Sound);
+    assert_eq!(books.live_rows(), Ok(1000));
     assert_eq!(books.row(999).unwrap().count(), 1);
     let before = books.clone();
     assert_eq!(
@@ -171,6 +177,8 @@ fn damage_is_found_where_it_is() {
     assert_eq!(books.check(), Verdict::RowRecord { row: 2, byte: 48 });
     assert_eq!(books.table_count(word.steps()), Err(Error::Damaged));
     assert_eq!(books.journal_count(&word), Ok(2));
+    assert_eq!(books.open_journals(), Ok(2));
+    assert_eq!(books.live_rows(), Err(Error::Damaged));
     assert_eq!(books.open(), Err(Error::Damaged));
     assert_eq!(books.append(Step::default()), Err(Error::Damaged));
     assert_eq!(books.list(1, 1).err(), Some(Error::Damaged));
@@ -180,6 +188,8 @@ fn damage_is_found_where_it_is() {
     assert_eq!(books.check(), Verdict::JournalRecord { record: 3 });
     assert_eq!(books.table_count(word.steps()), Ok(2));
     assert_eq!(books.journal_count(&word), Err(Error::Damaged));
+    assert_eq!(books.open_journals(), Err(Error::Damaged));
+    assert_eq!(books.live_rows(), Err(Error::Damaged));
 
     books = sound.clone();
     let many: Vec<Vec<u8>> = (0..16)
@@ -187,6 +197,8 @@ fn damage_is_found_where_it_is() {
         .collect();
     books.journals_mut().copy_from_slice(&journal_book(&many));
     assert_eq!(books.check(), Verdict::TooManyStates);
+    assert_eq!(books.open_journals(), Ok(16));
+    assert_eq!(books.live_rows(), Err(Error::Damaged));
 
     books.clear();
     assert!(books == Books::default());

@@ -1,4 +1,4 @@
-//! The calls of document 01, written straight from its rules.
+//! The calls of document 01, and how many journals and rows there are, straight from its rules.
 //!
 //! This crate shares no code with the proved library or its wrapper. It is there to be compared
 //! with, so it prefers the plain way of saying a thing: journals as rows of steps, states as rows
@@ -36,6 +36,24 @@ pub struct Counted {
     pub number: u8,
     /// The count; 0 with a refusal.
     pub count: u8,
+}
+
+/// What the number of open journals answers.
+#[derive(Clone, Copy, Debug, PartialEq, Eq)]
+pub struct OpenJournals {
+    /// The number of document 01.
+    pub number: u8,
+    /// How many journals are open; 0 with a refusal.
+    pub journals: usize,
+}
+
+/// What the number of live rows answers.
+#[derive(Clone, Copy, Debug, PartialEq, Eq)]
+pub struct LiveRows {
+    /// The number of document 01.
+    pub number: u8,
+    /// How many rows are live; 0 with a refusal.
+    pub rows: usize,
 }
 
 /// What the check answers.
@@ -107,9 +125,9 @@ fn state_count(k: usize, state: &State) -> usize {
     state[..k].iter().filter(|&&place| place != LOST).count()
 }
 
-/// Whether a state is live: some journal's place isn't lost.
+/// Whether a state is live: some journal's place isn't lost. No count is asked.
 fn is_live(k: usize, state: &State) -> bool {
-    state_count(k, state) > 0
+    state[..k].iter().any(|&place| place != LOST)
 }
 
 /// The live states that some word reaches, the lower place byte first; none if there are more than
@@ -273,6 +291,31 @@ pub fn append(journals: &mut [u8], rows: &mut [u8], step: u8) -> u8 {
     journals.copy_from_slice(&journal_book(&longer));
     rows.copy_from_slice(&drawn);
     0
+}
+
+/// The number of open journals, k, by the journal book alone. Order: 1, 2.
+pub fn open_journals(journals: &[u8]) -> OpenJournals {
+    let answer = |number, journals| OpenJournals { number, journals };
+    if journals.len() != JOURNAL_BOOK {
+        return answer(1, 0);
+    }
+    match first_wrong_journal_record(journals) {
+        Some(_) => answer(2, 0),
+        None => answer(0, journals_of(journals).len()),
+    }
+}
+
+/// The number of live rows: on sound books, how many states of the journals are live. Order: 1, 2.
+pub fn live_rows(journals: &[u8], rows: &[u8]) -> LiveRows {
+    let answer = |number, rows| LiveRows { number, rows };
+    if wrong_sizes(journals, rows) {
+        return answer(1, 0);
+    }
+    if !is_sound(journals, rows) {
+        return answer(2, 0);
+    }
+    let states = live_states(&journals_of(journals)).expect("sound books have few enough states");
+    answer(0, states.len())
 }
 
 /// Check: the first fault, looked for in the journal book, and in the row book if there is none.

@@ -153,6 +153,42 @@ impl Books {
         done(answer.number).map(|()| answer.count)
     }
 
+    /// How many journals are open, 0 to 16. It reads the journal book only.
+    ///
+    /// # Errors
+    ///
+    /// [`Damaged`](Error::Damaged), if the journal book lacks its form.
+    pub fn open_journals(&self) -> Result<usize, Error> {
+        let answer = raw::open_journals(&self.journals[..]);
+        done(answer.number).map(|()| answer.journals)
+    }
+
+    /// How many rows are live, 0 to 1,000: one for each live state of the journals. They are the
+    /// first rows of the table.
+    ///
+    /// ```
+    /// # use selquorin::{Books, Error, Step};
+    /// # fn main() -> Result<(), Error> {
+    /// let mut books = Books::new();
+    /// assert_eq!(books.live_rows()?, 0);
+    /// books.open()?;
+    /// books.append(Step::new(7)?)?;
+    /// for number in 0..books.live_rows()? {
+    ///     let row = books.row(number)?;
+    ///     assert_eq!(row.place(0).map(usize::from), Some(number));
+    /// }
+    /// # Ok(())
+    /// # }
+    /// ```
+    ///
+    /// # Errors
+    ///
+    /// [`Damaged`](Error::Damaged), unless the books are sound.
+    pub fn live_rows(&self) -> Result<usize, Error> {
+        let answer = raw::live_rows(&self.journals[..], &self.rows[..]);
+        done(answer.number).map(|()| answer.rows)
+    }
+
     /// Checks both books: whether they are sound, and if not, where the first fault is.
     pub fn check(&self) -> Verdict {
         let answer = raw::check(&self.journals[..], &self.rows[..]);

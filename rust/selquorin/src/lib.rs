@@ -24,6 +24,8 @@
 //!     }
 //! }
 //! assert_eq!(books.check(), Verdict::Sound);
+//! assert_eq!(books.open_journals()?, 2);
+//! assert_eq!(books.live_rows()?, 6);
 //!
 //! // How many journals hold a word: by the table, and from the journals alone.
 //! let word = Word::new(&[1, 2, 1])?;

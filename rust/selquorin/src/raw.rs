@@ -13,6 +13,24 @@ pub struct Counted {
     pub count: u8,
 }
 
+/// What the number of open journals answers.
+#[derive(Clone, Copy, Debug, PartialEq, Eq)]
+pub struct OpenJournals {
+    /// The number of document 01.
+    pub number: u8,
+    /// How many journals are open; 0 with a refusal.
+    pub journals: usize,
+}
+
+/// What the number of live rows answers.
+#[derive(Clone, Copy, Debug, PartialEq, Eq)]
+pub struct LiveRows {
+    /// The number of document 01.
+    pub number: u8,
+    /// How many rows are live; 0 with a refusal.
+    pub rows: usize,
+}
+
 /// What the check answers.
 #[derive(Clone, Copy, Debug, PartialEq, Eq)]
 pub struct Checked {
@@ -69,6 +87,13 @@ mod library {
             journals_length: usize,
             record: *const u8,
             record_length: usize,
+        ) -> u32;
+        pub fn selquorin_journals(journals: *const u8, journals_length: usize) -> u32;
+        pub fn selquorin_rows(
+            journals: *const u8,
+            journals_length: usize,
+            rows: *const u8,
+            rows_length: usize,
         ) -> u32;
         pub fn selquorin_check(
             journals: *const u8,
@@ -158,6 +183,30 @@ pub fn journal_count(journals: &[u8], record: &[u8]) -> Counted {
 fn counted(packed: u32) -> Counted {
     let [number, count, _, _] = packed.to_le_bytes();
     Counted { number, count }
+}
+
+/// The number of open journals, by the journal book. Numbers: 1, 2.
+pub fn open_journals(journals: &[u8]) -> OpenJournals {
+    // SAFETY: the book is lent whole, and only read.
+    let packed = unsafe { library::selquorin_journals(journals.as_ptr(), journals.len()) };
+    let (number, journals) = found(packed);
+    OpenJournals { number, journals }
+}
+
+/// The number of live rows of sound books. Numbers: 1, 2.
+pub fn live_rows(journals: &[u8], rows: &[u8]) -> LiveRows {
+    // SAFETY: both are lent whole, and only read.
+    let packed = unsafe {
+        library::selquorin_rows(journals.as_ptr(), journals.len(), rows.as_ptr(), rows.len())
+    };
+    let (number, rows) = found(packed);
+    LiveRows { number, rows }
+}
+
+/// Packed: number + 256 · how many.
+fn found(packed: u32) -> (u8, usize) {
+    let [number, ..] = packed.to_le_bytes();
+    (number, (packed >> 8) as usize)
 }
 
 /// Checks both books. Numbers: 1, 2.
