@@ -11,6 +11,7 @@ pub mod JournalCountCases
 pub mod Differences
 pub mod CheckCases
 pub mod Checks
+pub mod WriteCases
 pub mod OpenCases
 pub mod AppendCases
 pub mod OpenJournalsCases

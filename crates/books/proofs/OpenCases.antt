@@ -1,28 +1,29 @@
 -- Open by its cases: what a refusal leaves, and what stands when there is none. Assumes nothing.
 use Prim.Native.Nat.{ℕ, _≤_, _<_}
 use native.Mathlib.Omega.{arith}
-use mathlib.Core.Path.{_≡_, sym, ap, _∙_}
+use mathlib.Core.Path.{_≡_, sym, _∙_}
 use mathlib.Core.Bool.{true, not}
 use mathlib.Core.List.{List, [], _∷_}
 use lib.ListN.{length}
 use lib.Dec.{leb}
-use borrow.Author.Tests.{leb-false, le-leb, lt-leb, not-false}
+use borrow.Author.Tests.{leb-false, le-leb, lt-leb, le-ltb, not-false}
 use Rattle.words.specs.Journals.{opened}
 use Rattle.words.specs.Picture.{picture}
 use Rattle.words.specs.Words.{AreJournals}
 use Rattle.words.proofs.Journals.{opened-journals}
 use Rattle.words.proofs.Opening.{never-more}
 use Rattle.words.proofs.Place.{short}
-use Rattle.records.specs.JournalBook.{journalForm, journalsOf, journalBook}
-use Rattle.records.specs.RowBook.{rowBook}
+use Rattle.records.specs.JournalBook.{journalForm, journalsOf}
 use Rattle.records.specs.Sound.{rightSizes, sound, BooksOf}
 use Rattle.records.proofs.Sound.{sound-books}
 use Rattle.books.specs.Numbers.{Refusal, first}
 use Rattle.books.specs.Clear.{after}
+use Rattle.books.specs.Write.{writeCall}
 use Rattle.books.specs.Open.{openRefusals, openCall}
 use Rattle.books.specs.Check.{checkCall}
 use Rattle.books.proofs.Checks.{parts-of, seen-refused, seen-sound}
-use Rattle.books.proofs.Refusals.{pass, refused}
+use Rattle.books.proofs.Refusals.{pass}
+use Rattle.books.proofs.WriteCases.{written-refused, written-last}
 
 module _ (jb rb : List ℕ) where
   -- the books hold journals, and there is room for one more
@@ -70,8 +71,11 @@ module _ (jb rb : List ℕ) where
   -- the call, refused and done
   pub open-refused : (n : ℕ) → n ≡ first (openRefusals jb rb) → (n ≡ 0 → ⊥) → after n jb rb ≡ openCall jb rb
   unfolding openCall
-  open-refused n e h = rw (refused (first (openRefusals jb rb)) (journalBook (opened (journalsOf jb))) jb (λ z. h (e ∙ z)), refused (first (openRefusals jb rb)) (rowBook (opened (journalsOf jb))) rb (λ z. h (e ∙ z))) (ap (λ (m : ℕ). after m jb rb) e)
+  open-refused n e h = written-refused (opened (journalsOf jb)) jb rb n (first (openRefusals jb rb)) e h
 
-  pub open-done : first (openRefusals jb rb) ≡ 0 → after 0 (journalBook (opened (journalsOf jb))) (rowBook (opened (journalsOf jb))) ≡ openCall jb rb
+  -- the writer has no number for the new journals, since they fit
+  pub open-written : CanOpen → first (openRefusals jb rb) ≡ 0 → writeCall (opened (journalsOf jb)) jb rb ≡ openCall jb rb
   unfolding openCall
-  open-done e = rw e
+  open-written c e =
+      let js : List (List ℕ) = opened (journalsOf jb) in
+      written-last js jb rb (first (openRefusals jb rb)) (e ∙ rw (le-ltb 1000 (length (picture js)) (c .fits)))

@@ -2,14 +2,18 @@
 -- It is one law about lists of refusals, cited for each call. Assumes nothing.
 use Prim.Native.Nat.{ℕ, zero, suc, _≤_}
 use native.Mathlib.Omega.{arith}
-use mathlib.Core.Path.{_≡_, refl, sym, subst}
+use mathlib.Core.Path.{_≡_, refl, sym, subst, _∙_}
 use mathlib.Core.Bool.{Bool, true, false, cond}
 use mathlib.Core.List.{List, [], _∷_}
+use lib.ListN.{length}
+use lib.Dec.{leb, eqb}
+use borrow.Author.Tests.{lt-leb, ne-eqb}
+use Rattle.words.specs.Journals.{lastOf}
 use Rattle.words.proofs.Test.{test}
 use Rattle.books.specs.Numbers.{Refusal, first, Given, none-holds, this-holds, not-this, unless}
 use Rattle.books.specs.Clear.{clearCall}
 use Rattle.books.specs.Open.{openCall}
-use Rattle.books.specs.Append.{appendCall}
+use Rattle.books.specs.Append.{appendAtCall, appendCall}
 use Rattle.books.specs.TableCount.{tableCountRefusals, tableCountCall}
 use Rattle.books.specs.JournalCount.{journalCountRefusals, journalCountCall}
 use Rattle.books.specs.RowRecord.{rowRecordRefusals, rowRecordNumberCall, rowRecordCall}
@@ -53,14 +57,19 @@ told-most (suc n) a m h = omega arith
 
 -- clear, open and append: the numbers
 pub call-numbers : (c : Call) (jb rb : List ℕ) → Given (refusals c jb rb) (called c jb rb .number)
-unfolding clearCall openCall appendCall
+unfolding clearCall openCall appendAtCall appendCall
 call-numbers clears jb rb = first-given _
 call-numbers opens jb rb = first-given _
 call-numbers (appends s) jb rb = first-given _
 
+-- append: at the last journal, number 4's condition is that no journal is open
+pub append-none-open : (js : List (List ℕ)) → leb (length js) (lastOf js) ≡ eqb (length js) 0
+append-none-open [] = refl
+append-none-open (j ∷ js) = lt-leb (length (j ∷ js)) (lastOf (j ∷ js)) (omega arith) ∙ sym (ne-eqb (length (j ∷ js)) 0 (λ e. omega arith))
+
 -- clear, open and append: a refusal writes nothing
 pub call-refused : (c : Call) (jb rb : List ℕ) → (called c jb rb .number ≡ 0 → ⊥) → (called c jb rb .journals ≡ jb) × (called c jb rb .rows ≡ rb)
-unfolding clearCall openCall appendCall
+unfolding clearCall openCall appendAtCall appendCall
 call-refused clears jb rb h = (refused _ _ jb h, refused _ _ rb h)
 call-refused opens jb rb h = (refused _ _ jb h, refused _ _ rb h)
 call-refused (appends s) jb rb h = (refused _ _ jb h, refused _ _ rb h)

@@ -4,7 +4,7 @@ use Prim.Native.Nat.{ℕ, zero, suc, _≤_}
 use mathlib.Core.Path.{_≡_, refl, ap, subst}
 use mathlib.Core.List.{List, [], _∷_}
 use lib.ListN.{length}
-use Rattle.books.specs.Append.{appendRefusals, appendCall}
+use Rattle.books.specs.Append.{appendRefusals, appendAtCall, appendCall}
 use Rattle.books.specs.Clear.{clearCall, zeros}
 use Rattle.books.specs.Numbers.{first, unless}
 use Rattle.books.specs.Open.{openRefusals, openCall}
@@ -13,7 +13,7 @@ use Rattle.books.specs.Runs.{opens, appends}
 use Rattle.records.specs.JournalBook.{journalsOf, journalBook}
 use Rattle.records.specs.RowBook.{rowBook}
 use Rattle.records.specs.Sound.{BooksOf}
-use Rattle.words.specs.Journals.{opened, appended}
+use Rattle.words.specs.Journals.{opened, appended, lastOf}
 use Rattle.words.specs.Picture.{picture}
 use Rattle.words.specs.Words.{AreJournals}
 use Rattle.books.proofs.BookSizes.{both-sized}
@@ -38,18 +38,19 @@ module _ (js : List (List ℕ)) (jb rb : List ℕ) (b : BooksOf js jb rb) where
   opens-fits : first (openRefusals jb rb) ≡ 0 → Rebooked (opened js)
   opens-fits e = let c = can-open jb rb e in subst Rebooked (ap opened (books-journals b)) (books-of (opened (journalsOf jb)) (c .journals) (c .fits))
 
-  appends-fits : (s : ℕ) → first (appendRefusals jb rb s) ≡ 0 → Rebooked (appended s js)
+  appends-fits : (s : ℕ) → first (appendRefusals jb rb (lastOf (journalsOf jb)) s) ≡ 0 → Rebooked (appended s js)
+  unfolding appended
   appends-fits s e =
-      let c = append-fits jb rb s e in
-      subst Rebooked (ap (appended s) (books-journals b)) (books-of (appended s (journalsOf jb)) (c .0 .journals) (c .1))
+      let c = append-fits jb rb (lastOf (journalsOf jb)) s e in
+      subst Rebooked (ap (appended s) (books-journals b)) (books-of (appended s (journalsOf jb)) (c .0) (c .1))
 
   -- one call
   pub call-keeps : (c : Call) → BooksOf (unless (called c jb rb .number) (means c js) js) (called c jb rb .journals) (called c jb rb .rows)
-  unfolding clearCall openCall appendCall zeros
+  unfolding clearCall openCall appendAtCall appendCall zeros appended
   call-keeps clears = let l = both-sized jb rb (books-sizes b) in rw (books-sizes b, l .0, l .1) cleared-books
   call-keeps opens = left (first (openRefusals jb rb)) (opened js) (opened (journalsOf jb)) js jb rb (ap opened (books-journals b)) b opens-fits
   call-keeps (appends s) =
-      left (first (appendRefusals jb rb s)) (appended s js) (appended s (journalsOf jb)) js jb rb (ap (appended s) (books-journals b)) b (appends-fits s)
+      left (first (appendRefusals jb rb (lastOf (journalsOf jb)) s)) (appended s js) (appended s (journalsOf jb)) js jb rb (ap (appended s) (books-journals b)) b (appends-fits s)
 
 run-keeps : (cs : List Call) (r : Ran) → BooksOf (r .journals) (r .journal-book) (r .row-book)
     → BooksOf (runFrom r cs .journals) (runFrom r cs .journal-book) (runFrom r cs .row-book)

@@ -1,5 +1,6 @@
 pub mod Numbers
 pub mod Clear
+pub mod Write
 pub mod Open
 pub mod Append
 pub mod TableCount

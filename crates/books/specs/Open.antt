@@ -7,10 +7,10 @@ use lib.Dec.{leb}
 use Rattle.words.specs.Limits.{mostJournals}
 use Rattle.words.specs.Journals.{opened}
 use Rattle.books.specs.Numbers.{Refusal, first, wrongSize, damaged, journalsFull}
-use Rattle.records.specs.JournalBook.{journalsOf, journalBook}
-use Rattle.records.specs.RowBook.{rowBook}
+use Rattle.records.specs.JournalBook.{journalsOf}
 use Rattle.records.specs.Sound.{rightSizes, sound}
-use Rattle.books.specs.Clear.{After, leaves}
+use Rattle.books.specs.Clear.{After}
+use Rattle.books.specs.Write.{written}
 
 -- Open: 1, 2, 7.
 abbrev pub openRefusals : List ℕ → List ℕ → List Refusal
@@ -20,8 +20,6 @@ openRefusals jb rb =
     ∷ record { holds = leb mostJournals (length (journalsOf jb)); number = journalsFull }
     ∷ []
 
--- Open adds an empty journal behind the others.
+-- the books of one journal more, an empty one at the end
 unfoldable pub openCall : List ℕ → List ℕ → After
-openCall jb rb =
-    let js : List (List ℕ) = opened (journalsOf jb) in
-    leaves (first (openRefusals jb rb)) (journalBook js) (rowBook js) jb rb
+openCall jb rb = written (first (openRefusals jb rb)) (opened (journalsOf jb)) jb rb

@@ -2,8 +2,9 @@
 use Prim.Native.Nat.{ℕ}
 use mathlib.Core.List.{List, [], _∷_}
 use lib.ListN.{replicate}
-use Rattle.words.specs.Journals.{opened, appended}
+use Rattle.words.specs.Journals.{opened, appended, lastOf}
 use Rattle.records.specs.Sizes.{journalBookSize, rowBookSize}
+use Rattle.records.specs.JournalBook.{journalsOf}
 use Rattle.books.specs.Numbers.{Refusal, unless}
 use Rattle.books.specs.Clear.{After, clearRefusals, clearCall}
 use Rattle.books.specs.Open.{openRefusals, openCall}
@@ -25,7 +26,7 @@ called (appends s) jb rb = appendCall jb rb s
 abbrev pub refusals : Call → List ℕ → List ℕ → List Refusal
 refusals clears jb rb = clearRefusals jb rb
 refusals opens jb rb = openRefusals jb rb
-refusals (appends s) jb rb = appendRefusals jb rb s
+refusals (appends s) jb rb = appendRefusals jb rb (lastOf (journalsOf jb)) s
 
 -- what a call that is done means for the journals
 abbrev pub means : Call → List (List ℕ) → List (List ℕ)

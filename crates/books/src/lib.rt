@@ -6,6 +6,7 @@ mod checking;
 pub mod number;
 mod opening;
 mod size;
+mod writing;
 
 ghost use mathlib.Core.Path.{_≡_};
 ghost use Rattle.books.specs.Clear.{after, clearCall};
@@ -17,17 +18,15 @@ ghost use Rattle.books.specs.Check.{checkCall};
 ghost use Rattle.books.specs.RowRecord.{rowRecordCall, rowRecordNumberCall};
 ghost use Rattle.books.specs.OpenJournals.{openJournalsCall};
 ghost use Rattle.books.specs.LiveRows.{liveRowsCall};
-use appending::decide_append;
+use appending::append_at;
 use checking::see;
 use number::DAMAGED;
 use number::DONE;
-use number::ROWS_FULL;
 use number::WRONG_ROW;
 use number::WRONG_SIZE;
 use number::WRONG_STEP;
 use number::WRONG_WORD;
 use opening::decide_open;
-use opening::write_open;
 use records::JOURNAL_BOOK;
 use records::LONGEST_WORD;
 use records::ROW_BOOK;
@@ -40,6 +39,7 @@ use walk::Walked;
 use walk::walk_to;
 use words::JOURNALS;
 use words::STEP_CODES;
+use writing::write_books;
 
 // What a count answers: a number of document 01, and the count.
 pub struct Counted {
@@ -87,25 +87,21 @@ pub fn open(journals: &mut [u8], rows: &mut [u8]) -> u8
     if number != DONE {
         return number;
     }
-    write_open(journals, rows);
-    DONE
+    let mut wider = [0u8; JOURNAL_BOOK];
+    journal::with_journal(journals, &mut wider);
+    write_books(&wider, journals, rows)
 }
 
 // Appends a step to the journal opened last.
 pub fn append(journals: &mut [u8], rows: &mut [u8], step: u8) -> u8
     ensures { λ r. ⌜ after r (now (journals .exit)) (now (rows .exit)) ≡ appendCall (now (journals .entry)) (now (rows .entry)) step ⌝ }
 {
-    let number = decide_append(journals, rows, step);
-    if number != DONE {
-        return number;
+    if !right_sizes(journals, rows) {
+        return WRONG_SIZE;
     }
-    let mut longer = [0u8; JOURNAL_BOOK];
-    journal::with_step(journals, &mut longer, step);
-    if ROWS < picture::draw(&longer, rows) {
-        return ROWS_FULL;
-    }
-    fill::copy_all(&longer, journals);
-    DONE
+    // Only a book of its size can be asked for its last journal.
+    let last = journal::last_journal(journals);
+    append_at(journals, rows, last, step)
 }
 
 // Counts a word by the row book alone: walks from row 0 along the word's steps, and answers the last row's count.

@@ -1,13 +1,10 @@
-// Opening a journal: deciding, which only reads, and writing, which never refuses.
+// Opening a journal: deciding, which only reads.
 
 use crate::check;
 use crate::number::DONE;
 use crate::number::JOURNALS_FULL;
 use words::JOURNALS;
 ghost use mathlib.Core.Path.{_≡_};
-ghost use Rattle.words.specs.Journals.{opened};
-ghost use Rattle.records.specs.JournalBook.{journalsOf, journalBook};
-ghost use Rattle.records.specs.RowBook.{rowBook};
 ghost use Rattle.books.specs.Numbers.{first};
 ghost use Rattle.books.specs.Open.{openRefusals};
 
@@ -24,14 +21,4 @@ pub(crate) fn decide_open(journals: &[u8], rows: &[u8]) -> u8
         return JOURNALS_FULL;
     }
     DONE
-}
-
-// Opens the next journal in the journal book, and draws the picture anew.
-pub(crate) fn write_open(journals: &mut [u8], rows: &mut [u8])
-    requires { ⌜ first (openRefusals (now journals) (now rows)) ≡ 0 ⌝ }
-    ensures journals_after { λ _. ⌜ now (journals .exit) ≡ journalBook (opened (journalsOf (now (journals .entry)))) ⌝ }
-    ensures rows_after { λ _. ⌜ now (rows .exit) ≡ rowBook (opened (journalsOf (now (journals .entry)))) ⌝ }
-{
-    journal::open_next(journals);
-    picture::draw(journals, rows);
 }

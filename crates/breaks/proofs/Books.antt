@@ -5,7 +5,7 @@ use native.Mathlib.Omega.{arith}
 use mathlib.Core.Path.{_≡_, refl, sym, ap, _∙_}
 use mathlib.Core.List.{List, [], _∷_}
 use lib.ListN.{replicate, getD}
-use Rattle.books.specs.Append.{appendCall}
+use Rattle.books.specs.Append.{appendAtCall, appendCall}
 use Rattle.books.specs.Check.{checkCall, checkRows, compared}
 use Rattle.books.specs.Clear.{After, clearCall}
 use Rattle.books.specs.JournalCount.{journalCountCall}
@@ -18,7 +18,7 @@ use Rattle.records.specs.RowBook.{rowBook, rowRecord}
 use Rattle.records.specs.Sound.{sound}
 use Rattle.records.specs.StepBytes.{stepBytes}
 use Rattle.records.specs.WordRecord.{wordRecord}
-use Rattle.words.specs.Journals.{appended, lastOf, stepsAt}
+use Rattle.words.specs.Journals.{lastOf, stepsAt}
 use Rattle.words.specs.Picture.{picture}
 use Rattle.words.proofs.Worked.{two}
 use Rattle.books.specs.declared.Counted.{Counted}
@@ -51,7 +51,7 @@ unfolding openCall sound journalForm firstWrongRecord journalsOf rowBook picture
 open-accepts = refl
 
 append-accepts : appendCall (journalBook single) (rowBook single) 1 .number ≡ 0
-unfolding appendCall sound journalForm firstWrongRecord journalsOf journalBook journalRecord stepBytes rowBook rowRecord picture appended
+unfolding appendAtCall appendCall sound journalForm firstWrongRecord journalsOf journalBook journalRecord stepBytes rowBook rowRecord picture
 append-accepts = refl
 
 -- P4 and P6, by the table and by the journals
@@ -124,11 +124,11 @@ journal-count-constant =
 
 -- the journal's second step goes into byte 3, and row 1 then has an arc, in byte 64 + 18
 append-journals : getD (appendCall (journalBook single) (rowBook single) 1 .journals) 3 0 ≡ 1
-unfolding appendCall sound journalForm firstWrongRecord journalsOf journalBook journalRecord stepBytes rowBook rowRecord picture appended
+unfolding appendAtCall appendCall sound journalForm firstWrongRecord journalsOf journalBook journalRecord stepBytes rowBook rowRecord picture
 append-journals = refl
 
 append-rows : getD (appendCall (journalBook single) (rowBook single) 1 .rows) 82 0 ≡ 2
-unfolding appendCall sound journalForm firstWrongRecord journalsOf journalBook journalRecord stepBytes rowBook rowRecord picture appended
+unfolding appendAtCall appendCall sound journalForm firstWrongRecord journalsOf journalBook journalRecord stepBytes rowBook rowRecord picture
 append-rows = refl
 
 single-journals : getD (journalBook single) 3 0 ≡ 0

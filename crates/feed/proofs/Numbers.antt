@@ -7,13 +7,14 @@ use mathlib.Core.Logic.{_↔_}
 use mathlib.Core.List.{List, [], _∷_}
 use lib.ListN.{length}
 use lib.Dec.{eqb}
+use Rattle.words.specs.Journals.{lastOf}
 use Rattle.words.proofs.Test.{test}
 use Rattle.records.specs.JournalBook.{journalsOf}
 use Rattle.books.specs.Numbers.{Refusal, first, Given, brokenEntry}
 use Rattle.books.specs.Clear.{After}
 use Rattle.books.specs.Open.{openRefusals, openCall}
 use Rattle.books.specs.OpenJournals.{openJournalsRefusals}
-use Rattle.books.specs.Append.{appendRefusals, appendCall}
+use Rattle.books.specs.Append.{appendRefusals, appendAtCall, appendCall}
 use Rattle.books.proofs.Refusals.{first-given, refused}
 use Rattle.feed.specs.Ask.{askRefusals, askCall}
 use Rattle.feed.specs.Entry.{Entry, broken, append-entry, open-entry, open-append-entry, entryOf, openAppend, openAppendWhole, enter, entryCall}
@@ -43,9 +44,9 @@ module _ (jb rb : List ℕ) where
   open-other = first-without brokenEntry (λ e. omega arith) (openRefusals jb rb) (λ e. omega arith, (λ e. omega arith, (λ e. omega arith, tt)))
 
   append-other : (s : ℕ) → appendCall jb rb s .number ≡ brokenEntry → ⊥
-  unfolding appendCall
+  unfolding appendAtCall appendCall
   append-other s =
-      first-without brokenEntry (λ e. omega arith) (appendRefusals jb rb s)
+      first-without brokenEntry (λ e. omega arith) (appendRefusals jb rb (lastOf (journalsOf jb)) s)
       (λ e. omega arith, (λ e. omega arith, (λ e. omega arith, (λ e. omega arith, (λ e. omega arith, (λ e. omega arith, tt))))))
 
 module _ (jb rb : List ℕ) where

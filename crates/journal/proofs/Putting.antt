@@ -1,12 +1,12 @@
 -- The next journal opened, and a step put at the end of a journal that has room for it: where the bytes stand, and the book
 -- after it. Assumes nothing.
-use Prim.Native.Nat.{ℕ, _+_, _-_, _*_, _<_}
+use Prim.Native.Nat.{ℕ, _+_, _*_, _<_}
 use native.Mathlib.Omega.{arith}
 use mathlib.Core.Path.{_≡_, ap, _∙_}
 use mathlib.Core.Bool.{true}
 use mathlib.Core.List.{List}
 use lib.ListN.{length, getD, set}
-use Rattle.words.specs.Journals.{opened, appendedAt, appended, lastOf, stepsAt}
+use Rattle.words.specs.Journals.{opened, appendedAt, stepsAt}
 use Rattle.records.specs.JournalBook.{journalForm, journalsOf, journalBook}
 use Rattle.records.proofs.Form.{form-book, book-length}
 use Rattle.records.proofs.Writing.{open-bytes, append-bytes, length-byte}
@@ -44,13 +44,3 @@ module _ (b : List ℕ) (t : journalForm b ≡ true) (i : ℕ) (h : i < length (
       ap (λ (m : ℕ). set (set b (256 * i + (2 + m)) s) (256 * i + 1) (m + 1)) byte
       ∙ ap (λ (c : List ℕ). set (set c (256 * i + (2 + n)) s) (256 * i + 1) (n + 1)) (f .1)
       ∙ append-bytes i s (journalsOf b) (f .0) h l
-
--- at the last journal of a copy
-module _ (jb b : List ℕ) (k : ℕ) (e : b ≡ jb) (f : k ≡ length (journalsOf jb)) where
-  pub last-room : journalForm jb ≡ true → 0 < length (journalsOf jb) → stepsAt (lastOf (journalsOf jb)) (journalsOf jb) < 200
-      → (journalForm b ≡ true) × (k - 1 < length (journalsOf b)) × (stepsAt (k - 1) (journalsOf b) < 200)
-  last-room t z l = rw (e, f) (t, omega arith, l)
-
-  pub last-put : (s : ℕ) → journalBook (appendedAt (k - 1) s (journalsOf b)) ≡ journalBook (appended s (journalsOf jb))
-  unfolding appended
-  last-put s = rw (e, f)

@@ -1,4 +1,4 @@
-// The whole journal book: how many journals it has, the steps of one of them, and in how many of them a word is.
+// The whole journal book: how many journals it has, which is the last, the steps of one of them, and in how many of them a word is.
 
 use crate::steps::is_in;
 use records::JOURNAL_RECORD;
@@ -10,6 +10,7 @@ ghost use Prim.Native.Nat.{_<_};
 ghost use lib.ListN.{length, getD};
 ghost use Rattle.records.specs.Sizes.{journalBookSize};
 ghost use Rattle.words.specs.Words.{count};
+ghost use Rattle.words.specs.Journals.{lastOf};
 ghost use Rattle.records.specs.JournalBook.{journalForm, journalsOf};
 
 // The number of journals, which is that of the open records before the first that isn't open.
@@ -25,6 +26,18 @@ pub fn open_count(journals: &[u8]) -> usize
         k += 1;
     }
     k
+}
+
+// The number of the journal opened last, and 0 where there is none.
+pub fn last_journal(journals: &[u8]) -> usize
+    requires { ⌜ length (now journals) ≡ journalBookSize ⌝ }
+    ensures { λ r. ⌜ r ≡ lastOf (journalsOf (now (journals .entry))) ⌝ }
+{
+    let k = open_count(journals);
+    if k == 0 {
+        return 0;
+    }
+    k - 1
 }
 
 // The steps of journal i, as a part of the book.

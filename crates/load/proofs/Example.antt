@@ -2,14 +2,14 @@
 use mathlib.Core.Path.{_≡_, refl}
 use mathlib.Core.List.{[], _∷_}
 use Rattle.words.specs.Picture.{picture}
-use Rattle.words.specs.Journals.{opened, appended}
+use Rattle.words.specs.Journals.{opened}
 use Rattle.words.specs.Listing.{listOf}
 use Rattle.records.specs.StepBytes.{stepBytes}
 use Rattle.records.specs.JournalBook.{firstWrongRecord, journalForm, journalsOf, journalRecord, journalBook}
 use Rattle.records.specs.RowBook.{rowBook, rowRecord}
 use Rattle.records.specs.Sound.{sound}
 use Rattle.books.specs.Open.{openCall}
-use Rattle.books.specs.Append.{appendCall}
+use Rattle.books.specs.Append.{appendAtCall, appendCall}
 use Rattle.feed.specs.Entry.{entryOf, openAppend, openAppendWhole, enter, entryCall, feedFrom, feedCall}
 use Rattle.feed.specs.Ask.{askCall}
 use Rattle.text.specs.Text.{decimal, firstLine, wordLine, lastLine}
@@ -32,5 +32,5 @@ example : printed (0 ∷ 1 ∷ 0 ∷ 2 ∷ 0 ∷ 1 ∷ 1 ∷ 1 ∷ 1 ∷ 1 ∷ 1
     -- end 5
     101 ∷ 110 ∷ 100 ∷ 32 ∷ 53 ∷ 10 ∷
     []
-unfolding printed feedCall feedFrom entryCall enter openAppend openAppendWhole entryOf askCall firstLine wordLine lastLine decimal openCall appendCall sound journalForm firstWrongRecord journalsOf journalBook journalRecord stepBytes rowBook rowRecord picture opened appended listOf
+unfolding printed feedCall feedFrom entryCall enter openAppend openAppendWhole entryOf askCall firstLine wordLine lastLine decimal openCall appendAtCall appendCall sound journalForm firstWrongRecord journalsOf journalBook journalRecord stepBytes rowBook rowRecord picture opened listOf
 example = refl

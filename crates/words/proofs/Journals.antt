@@ -4,7 +4,7 @@ use native.Mathlib.Omega.{arith}
 use mathlib.Core.Path.{_≡_, refl, ap}
 use mathlib.Core.List.{List, [], _∷_}
 use lib.ListN.{length, length-append}
-use Rattle.words.specs.Journals.{opened, appendedAt, lastOf, stepsAt, appended}
+use Rattle.words.specs.Journals.{opened, appendedAt, stepsAt}
 use Rattle.words.specs.Words.{EachJournal, AreJournals}
 use Rattle.words.proofs.Members.{snoc-steps}
 
@@ -36,8 +36,3 @@ each-appended (suc i) s (j ∷ js) k b h = (k .0, each-appended i s js (k .1) b 
 -- a step at the end of journal i leaves journals while there is room for it
 pub appended-at-journals : (i s : ℕ) (js : List (List ℕ)) → AreJournals js → s < 16 → stepsAt i js < 200 → AreJournals (appendedAt i s js)
 appended-at-journals i s js k b h = record { few = omega (arith, k .few, length-appended-at i s js); each = each-appended i s js (k .each) b h }
-
--- and so at the last one
-pub appended-journals : (s : ℕ) (js : List (List ℕ)) → AreJournals js → s < 16 → stepsAt (lastOf js) js < 200 → AreJournals (appended s js)
-unfolding appended
-appended-journals s js k b h = appended-at-journals (lastOf js) s js k b h

@@ -1,64 +1,79 @@
--- `books::appending::decide_append` meets its contract: what the check says, then the step, the journals and the last one's length.
--- Assumes nothing.
-use Prim.Native.Nat.{_-_}
-use mathlib.Core.List.{[]}
-use lib.ListN.{getD}
-use Rattle.records.specs.JournalBook.{journalsOf}
-use mathlib.Core.Path.{sym, ap, _∙_}
-use Prim.Native.Nat.{ℕ}
+-- `books::appending::decide_append` meets its contract: what the check says, then the step, whether journal i is open, and its
+-- length. Assumes nothing.
+use mathlib.Core.Path.{_≡_, sym, ap, _∙_}
+use native.Mathlib.Omega.{arith}
 use lib.ListN.{length}
+use Rattle.books.specs.Check.{checkCall}
 use Rattle.books.specs.declared.Checked.{Checked}
 use Rattle.books.proofs.Checks.{checked-sizes}
 use Rattle.books.proofs.AppendCases.{append-seen, append-step, append-none, append-long, append-free}
 use borrow.Author.Needs.{needs}
-use native.Mathlib.Omega.{arith}
 use Rattle.books.proofs.appending.decide_append.Statement.{statement}
 use Rattle.books.proofs.appending.decide_append.Tie as tie
+
+-- the entry, seen from behind the check
+abbrev entry : tie.After-check → tie.Start
+entry c = c .before .before .before
+
+-- the check's number, and where it is 0
+number : (c : tie.After-check) → c .check .result .number ≡ checkCall (entry c .args .journals .now) (entry c .args .rows .now) .number
+number c = ap (λ (k : Checked). k .number) (c .check .ensures)
+
+right : (c : tie.Else1) → checkCall (entry (c .before) .args .journals .now) (entry (c .before) .args .rows .now) .number ≡ 0
+right c = sym (number (c .before)) ∙ c .if1 .left
 
 check-requires : tie.Need-check-requires
 check-requires c κs = search needs
 
 returns : tie.Need-returns
 returns c =
-    let e = ap (λ (k : Checked). k .number) (c .before .check .ensures) in
-    e ∙ append-seen (c .before .before .before .before .args .journals .now) (c .before .before .before .before .args .rows .now) (c .before .before .before .before .args .step) (λ z. c .if1 .taken (e ∙ z))
+    let seen = c .before in
+    let asked = entry seen .args in
+    number seen ∙ append-seen (asked .journals .now) (asked .rows .now) (asked .i) (asked .step) (λ z. c .if1 .taken (number seen ∙ z))
 
 returns-2 : tie.Need-returns-2
 returns-2 c =
-    let e = ap (λ (k : Checked). k .number) (c .before .before .check .ensures) in
-    append-step (c .before .before .before .before .before .args .journals .now) (c .before .before .before .before .before .args .rows .now) (c .before .before .before .before .before .args .step) (sym e ∙ c .before .if1 .left) (c .if2 .taken)
+    let sound = c .before in
+    let asked = entry (sound .before) .args in
+    append-step (asked .journals .now) (asked .rows .now) (asked .i) (asked .step) (right sound) (c .if2 .taken)
 
 open-count-requires : tie.Need-open-count-requires
 open-count-requires c κs =
-    let e = ap (λ (k : Checked). k .number) (c .before .before .check .ensures) in
-    checked-sizes (c .before .before .before .before .before .args .journals .now) (c .before .before .before .before .before .args .rows .now) (sym e ∙ c .before .if1 .left) .0
+    let sound = c .before in
+    let asked = entry (sound .before) .args in
+    checked-sizes (asked .journals .now) (asked .rows .now) (right sound) .0
 
 returns-3 : tie.Need-returns-3
 returns-3 c =
-    let e = ap (λ (k : Checked). k .number) (c .before .before .before .before .check .ensures) in
-    append-none (c .before .before .before .before .before .before .before .args .journals .now) (c .before .before .before .before .before .before .before .args .rows .now) (c .before .before .before .before .before .before .before .args .step) (sym e ∙ c .before .before .before .if1 .left) (c .before .before .if2 .left) (sym (c .before .open-count .ensures) ∙ c .if3 .taken)
-
-sub-journal-at : tie.Need-sub-journal-at
-sub-journal-at c = search needs
+    let code = c .before .before in
+    let sound = code .before in
+    let asked = entry (sound .before) .args in
+    append-none (asked .journals .now) (asked .rows .now) (asked .i) (asked .step) (right sound) (code .if2 .left)
+    (omega (arith, c .before .open-count .ensures, c .if3 .taken))
 
 journal-at-requires : tie.Need-journal-at-requires
 journal-at-requires c κs =
-    let e = ap (λ (k : Checked). k .number) (c .before .before .before .before .check .ensures) in
-    (checked-sizes (c .before .before .before .before .before .before .before .args .journals .now) (c .before .before .before .before .before .before .before .args .rows .now) (sym e ∙ c .before .before .before .if1 .left) .2, omega (arith, c .before .open-count .ensures, c .if3 .left))
+    let sound = c .before .before .before in
+    let asked = entry (sound .before) .args in
+    (checked-sizes (asked .journals .now) (asked .rows .now) (right sound) .2, omega (arith, c .before .open-count .ensures, c .if3 .left))
 
 returns-4 : tie.Need-returns-4
 returns-4 c =
-    let jb = c .before .before .before .before .before .before .before .before .before .args .journals .now in
-    let e = ap (λ (k : Checked). k .number) (c .before .before .before .before .before .before .check .ensures) in
-    let n = ap length (c .before .journal-at .ensures ∙ ap (λ (i : ℕ). getD (journalsOf jb) (i - 1) []) (c .before .before .before .open-count .ensures)) in
-    append-long jb (c .before .before .before .before .before .before .before .before .before .args .rows .now) (c .before .before .before .before .before .before .before .before .before .args .step) (sym e ∙ c .before .before .before .before .before .if1 .left) (c .before .before .before .before .if2 .left) (λ z. c .before .before .if3 .left (c .before .before .before .open-count .ensures ∙ z)) (omega (arith, n, c .if4 .taken))
+    let one = c .before .before in
+    let code = one .before .before in
+    let sound = code .before in
+    let asked = entry (sound .before) .args in
+    append-long (asked .journals .now) (asked .rows .now) (asked .i) (asked .step) (right sound) (code .if2 .left)
+    (omega (arith, one .before .open-count .ensures, one .if3 .left)) (omega (arith, ap length (c .before .journal-at .ensures), c .if4 .taken))
 
 returns-5 : tie.Need-returns-5
 returns-5 c =
-    let jb = c .before .before .before .before .before .before .before .before .before .args .journals .now in
-    let e = ap (λ (k : Checked). k .number) (c .before .before .before .before .before .before .check .ensures) in
-    let n = ap length (c .before .journal-at .ensures ∙ ap (λ (i : ℕ). getD (journalsOf jb) (i - 1) []) (c .before .before .before .open-count .ensures)) in
-    append-free jb (c .before .before .before .before .before .before .before .before .before .args .rows .now) (c .before .before .before .before .before .before .before .before .before .args .step) (sym e ∙ c .before .before .before .before .before .if1 .left) (c .before .before .before .before .if2 .left) (λ z. c .before .before .if3 .left (c .before .before .before .open-count .ensures ∙ z)) (omega (arith, n, c .if4 .left))
+    let one = c .before .before in
+    let code = one .before .before in
+    let sound = code .before in
+    let asked = entry (sound .before) .args in
+    append-free (asked .journals .now) (asked .rows .now) (asked .i) (asked .step) (right sound) (code .if2 .left)
+    (omega (arith, one .before .open-count .ensures, one .if3 .left)) (omega (arith, ap length (c .before .journal-at .ensures), c .if4 .left))
 
 pub decide-append-spec : {M : Type 1} → statement M
 decide-append-spec =
@@ -69,7 +84,6 @@ decide-append-spec =
     returns-2
     open-count-requires
     returns-3
-    sub-journal-at
     journal-at-requires
     returns-4
     returns-5)
