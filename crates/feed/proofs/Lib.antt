@@ -3,7 +3,8 @@ pub mod AskCases
 pub mod Asking
 pub mod EntryCases
 pub mod Entering
-pub mod Taking
+pub mod Reading
+pub mod TakeCases
 pub mod Entries
 pub mod FeedCases
 pub mod Numbers

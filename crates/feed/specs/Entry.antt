@@ -2,8 +2,8 @@
 use Prim.Native.Nat.{ℕ, suc, _+_}
 use mathlib.Core.Bool.{cond, _&&_}
 use mathlib.Core.List.{List, [], _∷_}
-use lib.ListN.{length, getD}
-use lib.Dec.{eqb, ltb, leb}
+use lib.ListN.{length}
+use lib.Dec.{eqb, ltb}
 use Rattle.words.specs.Limits.{stepCodes}
 use Rattle.books.specs.Numbers.{first, done, brokenEntry}
 use Rattle.records.specs.JournalBook.{journalsOf}
@@ -55,11 +55,6 @@ entryCall jb rb n s =
     let number : ℕ = first (openJournalsRefusals jb) in
     let entered : After = enter (entryOf (length (journalsOf jb)) n s) jb rb in
     cond (eqb number done) entered (after number jb rb)
-
--- the entry at a byte of the entries; a lone last byte is broken
-unfoldable pub takenAt : List ℕ → List ℕ → List ℕ → ℕ → After
-takenAt jb rb entries at =
-    cond (leb (length entries) (at + 1)) (after brokenEntry jb rb) (entryCall jb rb (getD entries at 0) (getD entries (at + 1) 0))
 
 -- what a row of entries leaves: how many were taken, and the number of the refusal that ended it, or 0
 pub record AfterFeeding : Type 0 where

@@ -11,6 +11,6 @@ abbrev pub pickRead : Bool → Read → Read → Read
 pickRead true a b = a
 pickRead false a b = b
 
--- nothing behind the last byte, a lone last byte, or an entry of two bytes
+-- nothing behind the last byte, a lone last byte, or an entry of two bytes with the position behind it
 unfoldable pub readAt : List ℕ → ℕ → Read
-readAt b at = pickRead (leb (length b) at) End (pickRead (eqb (length b - at) 1) Lone (Entry (getD b at 0) (getD b (at + 1) 0)))
+readAt b at = pickRead (leb (length b) at) End (pickRead (eqb (length b - at) 1) Lone (Entry (getD b at 0) (getD b (at + 1) 0) (at + 2)))

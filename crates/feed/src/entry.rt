@@ -11,9 +11,9 @@ use records::ROW_BOOK;
 use words::STEP_CODES;
 ghost use mathlib.Core.Path.{_≡_};
 ghost use Prim.Native.Nat.{_<_};
-ghost use lib.ListN.{length};
 ghost use Rattle.books.specs.Clear.{after};
-ghost use Rattle.feed.specs.Entry.{entryOf, openAppend, openAppendWhole, entryCall, takenAt};
+ghost use Rattle.feed.specs.Entry.{entryOf, openAppend, openAppendWhole, entryCall};
+ghost use Rattle.feed.specs.Taking.{took, takeAt};
 ghost use Rattle.feed.specs.Asked.{asks};
 
 // The step that only opens.
@@ -102,14 +102,26 @@ pub fn enter(journals: &mut [u8], rows: &mut [u8], number: u8, step: u8) -> u8
     }
 }
 
+// What came of looking for an entry: one was taken and the next stands at a byte, one was refused, or all are taken.
+pub(crate) enum Taken {
+    Next(usize),
+    Refused(u8),
+    All,
+}
+
 // Takes the entry that stands at a byte of the entries; a lone last byte is broken.
-pub(crate) fn take_at(journals: &mut [u8], rows: &mut [u8], entries: &[u8], at: usize) -> u8
-    requires { ⌜ at < length (now entries) ⌝ }
-    ensures { λ r. ⌜ after r (now (journals .exit)) (now (rows .exit)) ≡ takenAt (now (journals .entry)) (now (rows .entry)) (now (entries .entry)) at ⌝ }
+pub(crate) fn take_at(journals: &mut [u8], rows: &mut [u8], entries: &[u8], at: usize) -> Taken
+    ensures { λ r. ⌜ took r (now (journals .exit)) (now (rows .exit)) ≡ takeAt (now (journals .entry)) (now (rows .entry)) (now (entries .entry)) at ⌝ }
 {
     match read_entry(entries, at) {
-        Read::Entry(number, step) => enter(journals, rows, number, step),
-        Read::Lone => BROKEN_ENTRY,
-        Read::End => BROKEN_ENTRY,
+        Read::Entry(number, step, next) => {
+            let refused = enter(journals, rows, number, step);
+            if refused != DONE {
+                return Taken::Refused(refused);
+            }
+            Taken::Next(next)
+        }
+        Read::Lone => Taken::Refused(BROKEN_ENTRY),
+        Read::End => Taken::All,
     }
 }

@@ -6,6 +6,8 @@ mod copy;
 mod entry;
 mod reader;
 
+use books::number::DONE;
+use entry::Taken;
 use entry::take_at;
 ghost use mathlib.Core.Path.{_≡_};
 ghost use Rattle.feed.specs.Entry.{fed, feedCall};
@@ -31,13 +33,17 @@ pub fn feed(journals: &mut [u8], rows: &mut [u8], entries: &[u8]) -> Fed
 {
     let mut taken = 0;
     let mut at = 0;
-    while at < entries.len() {
-        let number = take_at(journals, rows, entries, at);
-        if number != 0 {
-            return Fed { number, taken };
+    loop {
+        match take_at(journals, rows, entries, at) {
+            Taken::Next(next) => {
+                taken += 1;
+                at = next;
+            }
+            Taken::Refused(number) => return Fed { number, taken },
+            Taken::All => return Fed {
+                number: DONE,
+                taken,
+            },
         }
-        taken += 1;
-        at += 2;
     }
-    Fed { number: 0, taken }
 }

@@ -1,4 +1,5 @@
-// The one small reader over the bytes read: a slice and a position in it. The functions over it are thin; `entry_at` does the work.
+// The one small reader over the bytes read: a slice and a position in it. What it reads carries the position behind it, so nobody else
+// knows how long an entry is. The functions over it are thin; `entry_at` does the work.
 
 ghost use mathlib.Core.Path.{_≡_};
 ghost use Rattle.feed.specs.Reading.{readAt};
@@ -9,9 +10,9 @@ pub(crate) struct Reader<'a> {
     pub at: usize,
 }
 
-// What stands at a position: an entry of two bytes, a lone last byte, or nothing.
+// What stands at a position: an entry of two bytes with the position behind it, a lone last byte, or nothing.
 pub(crate) enum Read {
-    Entry(u8, u8),
+    Entry(u8, u8, usize),
     Lone,
     End,
 }
@@ -26,7 +27,7 @@ fn entry_at(bytes: &[u8], at: usize) -> Read
     if bytes.len() - at == 1 {
         return Read::Lone;
     }
-    Read::Entry(bytes[at], bytes[at + 1])
+    Read::Entry(bytes[at], bytes[at + 1], at + 2)
 }
 
 // A reader at a position of the bytes.

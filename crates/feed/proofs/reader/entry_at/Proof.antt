@@ -28,6 +28,9 @@ add-t3 c = search needs
 shared-slice-read-t9 : tie.Need-shared-slice-read-t9
 shared-slice-read-t9 c = search needs
 
+add-t5 : tie.Need-add-t5
+add-t5 c = search needs
+
 -- two bytes are left
 returns-3 : tie.Need-returns-3
 unfolding readAt
@@ -36,4 +39,4 @@ returns-3 c = rw (lt-leb _ _ (c .before .before .before .if1 .left), ne-eqb _ _ 
 pub entry-at-spec : {M : Type 1} → statement M
 entry-at-spec =
     tie.close
-    (tie.spec returns sub-if2 returns-2 shared-slice-read-t7 add-t3 shared-slice-read-t9 returns-3)
+    (tie.spec returns sub-if2 returns-2 shared-slice-read-t7 add-t3 shared-slice-read-t9 add-t5 returns-3)
