@@ -3,8 +3,8 @@
 use Prim.Native.Nat.{ℕ, zero, suc, _+_, _≤_, _<_}
 use native.Mathlib.Omega.{arith}
 use mathlib.Core.Path.{_≡_, refl, ap, ap₂, _∙_}
-use mathlib.Core.List.{List, _∷_, _++_, map, List·Memᴰ, Memᴰ·map}
-use lib.ListN.{length, take}
+use mathlib.Core.List.{List, _∷_, map, List·Memᴰ, Memᴰ·map}
+use lib.ListN.{length, take, length-map}
 use Rattle.words.specs.Order.{Ascending}
 use Rattle.words.specs.Words.{AreJournals}
 use Rattle.words.specs.Places.{step, live}
@@ -14,7 +14,6 @@ use Rattle.words.proofs.Place.{Short, short}
 use Rattle.words.proofs.Rows.{step-row, row-width}
 use Rattle.words.proofs.Steps.{step-length}
 use Rattle.words.proofs.Test.{test}
-use Rattle.records.specs.Bytes.{flat}
 use Rattle.records.specs.RowBook.{rowRecord, placeBytes, countByte, behindCount, rowBytes, rowBook}
 use Rattle.records.proofs.Keys.{Widths, key-back, key-length, keys-ascending, row-keys}
 use Rattle.records.proofs.Flat.{flat-map}
@@ -22,8 +21,7 @@ use Rattle.table.specs.Keys.{rankOf}
 use Rattle.table.proofs.Ranks.{rank-row}
 use Rattle.picture.specs.Nexts.{Tabled}
 use Rattle.picture.specs.Stepped.{steppedKey}
-use Rattle.picture.specs.KeyRow.{keyArc, keyArcs, keyRow}
-use Rattle.picture.specs.Laid.{unused}
+use Rattle.picture.specs.KeyRow.{keyArc, keyArcs, keyRow, keyBook}
 use Rattle.picture.proofs.Stepped.{stepped-key}
 
 -- the keys of the picture's rows
@@ -75,7 +73,7 @@ module _ (js : List (List ℕ)) (are : AreJournals js) where
       key-row = ap₂ (λ (l : List ℕ) (n : ℕ). rowRecord (placeBytes a) l n behindCount) (arcs-from 0 16 refl) (ap countByte row-back)
 
     -- the records made of all rows' keys, and zeros behind them, are the picture's book
-    pub keys-book : (k n : ℕ) (keys : List (List ℕ)) → k ≡ length js → n ≡ length (picture js) → keys ≡ rowKeys js
-        → flat (keyRow nexts k keys) keys ++ unused n ≡ rowBook js
+    pub keys-book : (k : ℕ) (keys : List (List ℕ)) → k ≡ length js → keys ≡ rowKeys js → keyBook nexts k keys ≡ rowBook js
     unfolding rowBook
-    keys-book k n keys ek en e = rw (ek, en, e, flat-map (keyRow nexts (length js) (rowKeys js)) (rowBytes js) placeBytes (picture js) key-row)
+    keys-book k keys ek e =
+        rw (ek, e, length-map (picture js) placeBytes, flat-map (keyRow nexts (length js) (rowKeys js)) (rowBytes js) placeBytes (picture js) key-row)

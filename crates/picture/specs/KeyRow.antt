@@ -1,11 +1,11 @@
--- The row of a key: its arcs, and its record. Assumes nothing.
+-- The row of a key: its arcs, and its record; and the rows of all keys. Assumes nothing.
 use Prim.Native.Nat.{ℕ}
 use mathlib.Core.Bool.{cond}
 use mathlib.Core.List.{List, map}
 use lib.ListN.{take}
 use Rattle.words.specs.Places.{live}
 use Rattle.words.specs.Picture.{steps}
-use Rattle.records.specs.RowBook.{rowRecord, countByte, behindCount}
+use Rattle.records.specs.RowBook.{rowRecord, countByte, behindCount, bookOf}
 use Rattle.table.specs.Keys.{rankOf}
 use Rattle.picture.specs.Stepped.{steppedKey}
 
@@ -20,3 +20,7 @@ keyArcs nexts k keys key = map (keyArc nexts k keys key) steps
 -- its record
 abbrev pub keyRow : List ℕ → ℕ → List (List ℕ) → List ℕ → List ℕ
 keyRow nexts k keys key = rowRecord key (keyArcs nexts k keys key) (countByte (take k key)) behindCount
+
+-- the book of all keys' records
+abbrev pub keyBook : List ℕ → ℕ → List (List ℕ) → List ℕ
+keyBook nexts k keys = bookOf (keyRow nexts k keys) keys

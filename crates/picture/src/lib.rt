@@ -25,6 +25,7 @@ pub fn draw(journals: &[u8], rows: &mut [u8]) -> usize
     ensures found { λ r. ⌜ r ≡ rowsFound (journalsOf (now (journals .entry))) ⌝ }
     ensures rows_after { λ _. ⌜ now (rows .exit) ≡ drawn (journalsOf (now (journals .entry))) (now (rows .entry)) ⌝ }
 {
+    let k = journal::open_count(journals);
     let mut nexts = [0u8; ALL_NEXTS];
     tabulate(journals, &mut nexts);
     let mut table = [0u8; TABLE];
@@ -32,6 +33,6 @@ pub fn draw(journals: &[u8], rows: &mut [u8]) -> usize
     if ROWS < n {
         return n;
     }
-    draw_rows(journals, &nexts, &table, n, rows);
+    draw_rows(&nexts, k, &table, n, rows);
     n
 }

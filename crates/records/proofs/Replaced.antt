@@ -1,5 +1,5 @@
--- Records of one width that are replaced one after the other, from the first on: those before i are of the new kind, the rest of the old. Record i is
--- read as the old one, and written as the new one. Assumes nothing.
+-- Records of one width that are replaced one after the other, from the last to the first: those before i are of the old kind, the rest of the new.
+-- Record i is read as the old one, and written as the new one. Assumes nothing.
 use Prim.Native.Nat.{ℕ, suc, _+_, _*_, _≤_, _<_}
 use native.Mathlib.Numerals.{add-one}
 use native.Mathlib.Omega.{arith}
@@ -11,44 +11,46 @@ use Rattle.words.proofs.Rows.{at-mem}
 use Rattle.records.specs.Bytes.{flat}
 use Rattle.records.proofs.Flat.{Wide, length-flat, flat-snoc, wide-take}
 
--- the records that new makes of the first i of l, and those that old makes of the rest, in front of z
+-- the records that old makes of the first i of l, and those that new makes of the rest, in front of z
 abbrev pub replaced : (List ℕ → List ℕ) → (List ℕ → List ℕ) → List (List ℕ) → List ℕ → ℕ → List ℕ
-replaced new old l z i = flat new (take i l) ++ (flat old (drop i l) ++ z)
+replaced old new l z i = flat old (take i l) ++ (flat new (drop i l) ++ z)
 
-module _ (new old : List ℕ → List ℕ) (l : List (List ℕ)) (z : List ℕ) where
-  -- all are replaced
-  pub replaced-all : replaced new old l z (length l) ≡ flat new l ++ z
-  replaced-all = let e : length l ≤ length l = omega arith in rw (take-length, drop-of-length-le l e)
+module _ (old new : List ℕ → List ℕ) (l : List (List ℕ)) (z : List ℕ) where
+  -- none is replaced yet
+  pub replaced-none : flat old l ++ z ≡ replaced old new l z (length l)
+  replaced-none = let e : length l ≤ length l = omega arith in rw (take-length, drop-of-length-le l e)
 
-  module _ (n : ℕ) (wide-new : Wide new n l) (wide-old : Wide old n l) (i : ℕ) (b : i < length l) where
-    abbrev Done : List ℕ
-    Done = flat new (take i l)
+  module _ (n : ℕ) (wide : Wide old n l) (i : ℕ) (b : i < length l) where
+    abbrev Book : List ℕ
+    Book = replaced old new l z (i + 1)
+
+    abbrev Front : List ℕ
+    Front = flat old (take i l)
 
     abbrev Item : List ℕ
     Item = getD l i []
 
     abbrev Rest : List ℕ
-    Rest = flat old (drop (suc i) l) ++ z
+    Rest = flat new (drop (suc i) l) ++ z
 
-    length-done : length Done ≡ n * i
-    length-done = length-flat new n (take i l) (wide-take new n l wide-new i) ∙ ap (λ (m : ℕ). n * m) (length-take-le i l (omega arith))
+    length-front : length Front ≡ n * i
+    length-front = length-flat old n (take i l) (wide-take old n l wide i) ∙ ap (λ (m : ℕ). n * m) (length-take-le i l (omega arith))
 
-    in-front : take (n * i) (replaced new old l z i) ≡ Done
-    in-front = take-at Done (flat old (drop i l) ++ z) (n * i) length-done
+    -- the records before record i, and from there on
+    split : Book ≡ Front ++ (old Item ++ Rest)
+    split = rw (add-one, take-suc l i [] b, flat-snoc) (append-assoc Front (old Item) Rest)
+
+    in-front : take (n * i) Book ≡ Front
+    in-front = ap (take (n * i)) split ∙ take-at Front (old Item ++ Rest) (n * i) length-front
 
     -- from record i on: the old record, and the rest
-    pub from-item : drop (n * i) (replaced new old l z i) ≡ old Item ++ Rest
-    from-item =
-        drop-at Done (flat old (drop i l) ++ z) (n * i) length-done
-        ∙ rw (drop-cons l i []) (append-assoc (old Item) (flat old (drop (suc i) l)) z)
+    pub from-item : drop (n * i) Book ≡ old Item ++ Rest
+    from-item = ap (drop (n * i)) split ∙ drop-at Front (old Item ++ Rest) (n * i) length-front
 
     -- what stands behind it
-    pub behind : drop (n * i + n) (replaced new old l z i) ≡ Rest
-    behind =
-        sym (drop-drop n (n * i) (replaced new old l z i))
-        ∙ ap (drop n) from-item
-        ∙ drop-at (old Item) Rest n (wide-old Item (at-mem l i b))
+    pub behind : drop (n * i + n) Book ≡ Rest
+    behind = sym (drop-drop n (n * i) Book) ∙ ap (drop n) from-item ∙ drop-at (old Item) Rest n (wide Item (at-mem l i b))
 
     -- record i is replaced
-    pub replaced-on : take (n * i) (replaced new old l z i) ++ (new Item ++ drop (n * i + n) (replaced new old l z i)) ≡ replaced new old l z (i + 1)
-    replaced-on = rw (add-one, in-front, behind, take-suc l i [] b, flat-snoc) (sym (append-assoc Done (new Item) Rest))
+    pub replaced-on : take (n * i) Book ++ (new Item ++ drop (n * i + n) Book) ≡ replaced old new l z i
+    replaced-on = rw (in-front, behind, drop-cons l i []) (ap (λ (r : List ℕ). Front ++ r) (sym (append-assoc (new Item) (flat new (drop (suc i) l)) z)))

@@ -1,4 +1,4 @@
--- The row book: 64,000 bytes, 1,000 records of 64. Assumes nothing.
+-- The row book: 1,000 records of 64 bytes each. Assumes nothing.
 use Prim.Native.Nat.{ℕ, _+_, _-_, _*_}
 use mathlib.Core.List.{List, _∷_, _++_, map}
 use lib.ListN.{length, take, drop, replicate, getD}
@@ -28,9 +28,17 @@ behindCount = replicate 15 0
 abbrev pub rowBytes : List (List ℕ) → List ℕ → List ℕ
 rowBytes js a = rowRecord (placeBytes a) (arcs js (picture js) a) (countByte a) behindCount
 
--- The picture as a book: one row record for each live state, every later record all zero.
+-- the records behind the first n, all zero
+abbrev pub unused : ℕ → List ℕ
+unused n = replicate (rowRecordSize * (mostRows - n)) 0
+
+-- a row book with the record that f makes of each of l, in their order
+abbrev pub bookOf : (List ℕ → List ℕ) → List (List ℕ) → List ℕ
+bookOf f l = flat f l ++ unused (length l)
+
+-- the picture as a book: a record for each live state
 unfoldable pub rowBook : List (List ℕ) → List ℕ
-rowBook js = flat (rowBytes js) (picture js) ++ replicate (rowRecordSize * (mostRows - length (picture js))) 0
+rowBook js = bookOf (rowBytes js) (picture js)
 
 -- a row's places, in any book
 abbrev pub placesAt : List ℕ → ℕ → List ℕ

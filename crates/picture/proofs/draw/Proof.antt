@@ -1,12 +1,35 @@
--- `picture::draw` meets its contract: the search says how many live states there are, and the rows are drawn only if they fit.
--- Assumes nothing.
+-- `picture::draw` meets its contract: the search says how many live states there are, and the rows are drawn only if they fit. The keys found are those
+-- of the picture's rows, so that the records made of them are the picture's. Assumes nothing.
+use Prim.Native.Nat.{ℕ}
 use mathlib.Core.Path.{sym, _∙_}
+use mathlib.Core.List.{List}
+use Rattle.words.specs.Words.{AreJournals}
 use Rattle.records.specs.JournalBook.{journalsOf}
+use Rattle.records.proofs.Form.{form-book}
+use Rattle.journal.proofs.Journals.{form-size}
 use Rattle.picture.proofs.Drawn.{says-many, says-few, drawn-few, drawn-many}
+use Rattle.picture.proofs.KeyArcs.{row-keys-ascending, keys-book}
 use borrow.Author.Needs.{needs}
 use native.Mathlib.Omega.{arith}
 use Rattle.picture.proofs.draw.Statement.{statement}
 use Rattle.picture.proofs.draw.Tie as tie
+
+module _ (s : tie.Start) where
+  abbrev Js : List (List ℕ)
+  Js = journalsOf (s .args .journals .now)
+
+  journals : AreJournals Js
+  journals = form-book (s .args .journals .now) (s .pre .0) .0
+
+-- the function's start, from where the journals are counted, and that from where the states are found
+abbrev start : tie.After-open-count → tie.Start
+start c = c .before .before .before
+
+abbrev counting : tie.After-find-states → tie.After-open-count
+counting c = c .before .before .before .before .before .before
+
+open-count-requires : tie.Need-open-count-requires
+open-count-requires c κs = let s = c .before .before in form-size (s .args .journals .now) (s .pre .0)
 
 slice-aggregate-tabulate : tie.Need-slice-aggregate-tabulate
 slice-aggregate-tabulate c = search needs
@@ -25,9 +48,10 @@ find-states-requires c κs = search needs
 
 returns : tie.Need-returns
 returns c =
-    let js = journalsOf (c .before .before .before .before .before .before .before .before .before .before .args .journals .now) in
-    let many = c .before .before .find-states .ensures .most (c .if1 .taken) in
-    (says-many js (c .before .before .find-states .result) many, sym (drawn-many js (c .before .before .before .before .before .before .before .before .before .before .args .rows .now) (many .1)))
+    let found = c .before .before in
+    let s = start (counting found) in
+    let many = found .find-states .ensures .most (c .if1 .taken) in
+    (says-many (Js s) (found .find-states .result) many, sym (drawn-many (Js s) (s .args .rows .now) (many .1)))
 
 slice-aggregate-draw-rows : tie.Need-slice-aggregate-draw-rows
 slice-aggregate-draw-rows c = search needs
@@ -36,21 +60,29 @@ slice-aggregate-draw-rows-2 : tie.Need-slice-aggregate-draw-rows-2
 slice-aggregate-draw-rows-2 c = search needs
 
 draw-rows-requires : tie.Need-draw-rows-requires
-draw-rows-requires c κs = search needs
+draw-rows-requires c κs =
+    let fit = c .before .before .before in
+    let found = fit .before .before in
+    let s = start (counting found) in
+    let few = found .find-states .ensures .few (fit .if1 .left) in
+    (search needs, omega (arith, counting found .open-count .ensures, journals s .few), search needs, search needs, rw (few .1) (row-keys-ascending (Js s) (journals s)), search needs)
 
 same-length : tie.Need-same-length
 same-length c = search needs
 
 returns-2 : tie.Need-returns-2
 returns-2 c =
-    let js = journalsOf (c .before .before .before .before .before .before .before .before .before .before .before .before .before .before .before .before .args .journals .now) in
-    let few = c .before .before .before .before .before .before .before .before .find-states .ensures .few (c .before .before .before .before .before .before .if1 .left) in
-    (says-few js (c .before .before .before .before .before .before .before .before .find-states .result) (few .0) (c .before .before .before .before .before .before .if1 .left), c .before .before .draw-rows .ensures ∙ sym (drawn-few js (c .before .before .before .before .before .before .before .before .before .before .before .before .before .before .before .before .args .rows .now) (omega (arith, few .0, c .before .before .before .before .before .before .if1 .left))))
+    let fit = c .before .before .before .before .before .before in
+    let found = fit .before .before in
+    let s = start (counting found) in
+    let few = found .find-states .ensures .few (fit .if1 .left) in
+    (says-few (Js s) (found .find-states .result) (few .0) (fit .if1 .left), c .before .before .draw-rows .ensures ∙ keys-book (Js s) (journals s) _ (found .before .before .before .before .tabulate .ensures) _ _ (counting found .open-count .ensures) (few .1) ∙ sym (drawn-few (Js s) (s .args .rows .now) (omega (arith, few .0, fit .if1 .left))))
 
 pub draw-spec : {M : Type 1} → statement M
 draw-spec =
     tie.close
     (tie.spec
+    open-count-requires
     slice-aggregate-tabulate
     tabulate-requires
     slice-aggregate-find-states
