@@ -5,9 +5,10 @@ use mathlib.Core.Path.{_≡_, refl, ap₂}
 use mathlib.Core.Bool.{true, false}
 use mathlib.Core.List.{List, [], _∷_, map, List·Memᴰ·head, List·Memᴰ·tail}
 use lib.ListN.{length, take}
-use Rattle.words.specs.Order.{before}
+use Rattle.words.specs.Order.{before, Ascending}
 use Rattle.words.specs.Places.{live}
 use Rattle.words.specs.Picture.{insert, keep}
+use Rattle.words.proofs.Order.{insert-ascending}
 use Rattle.words.proofs.Sweep.{length-insert}
 use Rattle.words.proofs.Test.{test}
 use Rattle.records.specs.RowBook.{placeBytes}
@@ -23,6 +24,11 @@ module _ (k : ℕ) (to key : List ℕ) (keys : List (List ℕ)) (e : to ≡ key)
   pub stays-out : live (take k to) ≡ false → keys ≡ withKey k key keys
   unfolding withKey
   stays-out f = rw (← e, f)
+
+-- keys that ascend ascend with it
+pub with-ascending : (k : ℕ) (key : List ℕ) (keys : List (List ℕ)) → Ascending keys → Ascending (withKey k key keys)
+unfolding withKey
+with-ascending k key keys h = test (live (take k key)) (λ t. rw t (insert-ascending key keys h)) (λ f. rw f h)
 
 -- an insertion adds at most one
 insert-most : (q : List ℕ) (l : List (List ℕ)) → length (insert q l) ≤ suc (length l)

@@ -3,8 +3,8 @@
 use Prim.Native.Nat.{ℕ, zero, suc, _+_, _*_, _-_, _≤_, _<_}
 use native.Mathlib.Numerals.{add-one}
 use native.Mathlib.Omega.{arith}
-use mathlib.Core.Path.{_≡_, refl, sym, ap, ap₂, subst, _∙_}
-use mathlib.Core.List.{List, [], _∷_, _++_, map}
+use mathlib.Core.Path.{_≡_, refl, sym, ap, ap₂, _∙_}
+use mathlib.Core.List.{List, [], _∷_, _++_, map, List·Memᴰ·not-nil}
 use lib.ListN.{length, take, drop, getD, replicate, length-map}
 use lib.Seq.{paste}
 use Rattle.words.specs.Order.{Ascending}
@@ -18,7 +18,7 @@ use Rattle.words.proofs.Sweep.{Partial, sweep-start, partial-width, dead-step, 
 use Rattle.words.proofs.Test.{test}
 use Rattle.records.specs.Bytes.{records}
 use Rattle.records.specs.RowBook.{placeBytes}
-use Rattle.records.proofs.Keys.{Widths, key-at, key-length, keys-ascending}
+use Rattle.records.proofs.Keys.{key-at, key-length}
 use Rattle.table.proofs.Records.{length-records, records-at}
 use Rattle.picture.specs.Nexts.{Tabled}
 use Rattle.picture.specs.Stepped.{steppedKey, withKey}
@@ -45,13 +45,6 @@ module _ (js : List (List ℕ)) (are : AreJournals js) where
   how-many n t = length-map (records 16 n t) (take (length js)) ∙ length-records 16 n t
 
   module _ (i s n : ℕ) (t : List ℕ) (w : Sweeping js i s n t) where
-    widths : Widths (length js) (statesIn (length js) n t)
-    widths = partial-width js limits i s (statesIn (length js) n t) (w .partial)
-
-    -- the keys ascend, as the states do
-    pub ascend : Ascending (records 16 n t)
-    ascend = subst (λ (x : List (List ℕ)). Ascending x) (sym (w .keys)) (keys-ascending (length js) (statesIn (length js) n t) widths (w .partial .ascending))
-
     -- row i, with its key
     pub row-begins : i < n → Growing js i s (take 16 (drop (16 * i) t)) n t
     row-begins h =
@@ -157,6 +150,10 @@ start-key (j ∷ js) zero h = absurd (omega arith)
 start-key (j ∷ js) (suc m) h =
     let e : suc m - suc (length (state js [])) ≡ m - length (state js []) = omega arith in
     rw e (ap (λ (x : List ℕ). 0 ∷ x) (start-key js m (omega arith)))
+
+-- one key ascends
+pub one-ascending : (t : List ℕ) → Ascending (records 16 1 t)
+one-ascending t = (λ b m. absurd (List·Memᴰ·not-nil m), tt)
 
 -- the first key is that of the empty word's state
 pub sweep-begins : (js : List (List ℕ)) → AreJournals js → (length js ≡ 0 → ⊥) → (t u : List ℕ) → u ≡ paste t 0 (replicate 16 0) 16 → Sweeping js 0 0 1 u

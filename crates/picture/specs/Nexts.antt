@@ -7,6 +7,7 @@ use lib.ListN.{length, getD}
 use lib.Dec.{ltb, eqb}
 use Rattle.words.specs.Limits.{stepCodes, longestJournal, mostJournals, lost}
 use Rattle.words.specs.Places.{next}
+use Rattle.words.specs.Words.{AreJournals}
 
 -- the entries of one journal: 201 places by 16 steps
 abbrev pub nextsOfOne : ℕ
@@ -27,3 +28,7 @@ NextsOf j entries = (x : ℕ) → x < nextsOfOne → getD entries x 0 ≡ next j
 -- and so for each of the journals, one after the other
 abbrev pub Tabled : List (List ℕ) → List ℕ → Type 0
 Tabled js nexts = (i x : ℕ) → i < length js → x < nextsOfOne → getD nexts (nextsOfOne * i + x) 0 ≡ next (getD js i []) (x / stepCodes) (x % stepCodes)
+
+-- P holds of the k journals whose table this is, whichever they are
+abbrev pub AnyTabled : List ℕ → ℕ → (List (List ℕ) → Type 0) → Type 0
+AnyTabled nexts k P = (js : List (List ℕ)) → AreJournals js → length js ≡ k → Tabled js nexts → P js

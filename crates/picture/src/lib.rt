@@ -27,9 +27,9 @@ pub fn draw(journals: &[u8], rows: &mut [u8]) -> usize
 {
     let k = journal::open_count(journals);
     let mut nexts = [0u8; ALL_NEXTS];
-    tabulate(journals, &mut nexts);
+    tabulate(journals, k, &mut nexts);
     let mut table = [0u8; TABLE];
-    let n = find_states(journals, &nexts, &mut table);
+    let n = find_states(&nexts, k, &mut table);
     if ROWS < n {
         return n;
     }

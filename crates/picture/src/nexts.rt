@@ -61,12 +61,11 @@ fn fill_nexts(steps: &[u8], entries: &mut [u8])
     }
 }
 
-// Fills in the table of all journals.
-pub(crate) fn tabulate(journals: &[u8], nexts: &mut [u8])
-    requires { ⌜ (journalForm (now journals) ≡ true) × (length (now nexts) ≡ nextsOfAll) ⌝ }
+// Fills in the table of all k journals.
+pub(crate) fn tabulate(journals: &[u8], k: usize, nexts: &mut [u8])
+    requires { ⌜ (journalForm (now journals) ≡ true) × (k ≡ length (journalsOf (now journals))) × (length (now nexts) ≡ nextsOfAll) ⌝ }
     ensures { λ _. ⌜ Tabled (journalsOf (now (journals .entry))) (now (nexts .exit)) ⌝ }
 {
-    let k = journal::open_count(journals);
     let mut i = 0;
     while i < k {
         let a = NEXTS * i;

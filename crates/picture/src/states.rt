@@ -7,15 +7,13 @@ use records::ROWS;
 use table::KEY;
 use words::STEP_CODES;
 ghost use mathlib.Core.Path.{_≡_};
-ghost use mathlib.Core.Bool.{true};
 ghost use Prim.Native.Nat.{_+_, _*_, _≤_, _<_};
 ghost use lib.ListN.{length};
 ghost use Rattle.words.specs.Order.{Ascending};
 ghost use Rattle.records.specs.Bytes.{records};
-ghost use Rattle.records.specs.JournalBook.{journalForm, journalsOf};
 ghost use Rattle.words.specs.Limits.{stepCodes, mostJournals};
 ghost use Rattle.records.specs.Sizes.{mostRows};
-ghost use Rattle.picture.specs.Nexts.{nextsOfAll, Tabled};
+ghost use Rattle.picture.specs.Nexts.{nextsOfAll, AnyTabled};
 ghost use Rattle.picture.specs.Stepped.{steppedKey, withKey};
 ghost use Rattle.picture.specs.Found.{tableSize, Sweeping, Swept, Found};
 ghost use Rattle.table.specs.Keys.{keySize};
@@ -37,11 +35,11 @@ fn add_step(nexts: &[u8], k: usize, t: &mut [u8], n: usize, key: [u8; 16], s: u8
 }
 
 // Puts in all live states that lead on from row i. Returns how many keys there are then, 1,001 if they are too many.
-fn grow_row(journals: &[u8], nexts: &[u8], t: &mut [u8], n: usize, i: usize) -> usize
-    requires { ⌜ (journalForm (now journals) ≡ true) × (length (now nexts) ≡ nextsOfAll) × Tabled (journalsOf (now journals)) (now nexts) × (length (now t) ≡ tableSize) × (i < n) × Sweeping (journalsOf (now journals)) i 0 n (now t) ⌝ }
-    ensures { λ r. ⌜ Swept (journalsOf (now (journals .entry))) (i + 1) r (now (t .exit)) ⌝ }
+fn grow_row(nexts: &[u8], k: usize, t: &mut [u8], n: usize, i: usize) -> usize
+    requires { ⌜ (length (now nexts) ≡ nextsOfAll) × (k ≤ mostJournals) × (length (now t) ≡ tableSize) × (i < n) × (n ≤ mostRows) × Ascending (records keySize n (now t)) × AnyTabled (now nexts) k (λ js. Sweeping js i 0 n (now t)) ⌝ }
+    ensures ascending { λ r. ⌜ Ascending (records keySize r (now (t .exit))) ⌝ }
+    ensures swept { λ r. ⌜ AnyTabled (now (nexts .entry)) k (λ js. Swept js (i + 1) r (now (t .exit))) ⌝ }
 {
-    let k = journal::open_count(journals);
     let key = table::key_at(t, KEY * i);
     let mut m = n;
     let mut s: u8 = 0;
@@ -56,18 +54,18 @@ fn grow_row(journals: &[u8], nexts: &[u8], t: &mut [u8], n: usize, i: usize) -> 
 }
 
 // Finds all live states and puts their keys into the table, ascending. Returns how many there are, 1,001 if they are too many.
-pub(crate) fn find_states(journals: &[u8], nexts: &[u8], t: &mut [u8]) -> usize
-    requires { ⌜ (journalForm (now journals) ≡ true) × (length (now nexts) ≡ nextsOfAll) × Tabled (journalsOf (now journals)) (now nexts) × (length (now t) ≡ tableSize) ⌝ }
-    ensures { λ r. ⌜ Found (journalsOf (now (journals .entry))) r (now (t .exit)) ⌝ }
+pub(crate) fn find_states(nexts: &[u8], k: usize, t: &mut [u8]) -> usize
+    requires { ⌜ (length (now nexts) ≡ nextsOfAll) × (k ≤ mostJournals) × (length (now t) ≡ tableSize) ⌝ }
+    ensures { λ r. ⌜ AnyTabled (now (nexts .entry)) k (λ js. Found js r (now (t .exit))) ⌝ }
 {
-    if journal::open_count(journals) == 0 {
+    if k == 0 {
         return 0;
     }
     table::put(t, 0, [0u8; 16]);
     let mut n = 1;
     let mut i = 0;
     while i < n {
-        n = grow_row(journals, nexts, t, n, i);
+        n = grow_row(nexts, k, t, n, i);
         if ROWS < n {
             return n;
         }

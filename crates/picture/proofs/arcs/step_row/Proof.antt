@@ -56,8 +56,9 @@ loop-less c = search needs
 
 loop-again : tie.Need-loop-again Inv-loop μ-loop
 loop-again c =
-    let l = c .before .before .loop in
-    let s = c .before .before .before .before .before .before .before in
+    let head = c .before .before in
+    let l = head .loop in
+    let s = head .before .before .before .before .before in
     let z : l .s ≡ 0 + l .s = omega arith in
     let v : c .arc-of .result ≡ getD (Arcs s) (l .s) 0
     = c .arc-of .ensures ∙ arc-at (s .args .nexts .now) (s .args .k) (Keys s) (s .args .row .places) (l .s) (omega arith) in (
@@ -72,8 +73,9 @@ count-of-requires c κs = search needs
 
 returns : tie.Need-returns Inv-loop μ-loop
 returns c =
-    let l = c .before .before .loop in
-    let s = c .before .before .before .before .before .before .before in
+    let head = c .before .before in
+    let l = head .loop in
+    let s = head .before .before .before .before .before in
     let e : l .s ≡ 16 = omega arith in
     let all : length (s .args .row .arcs) ≤ 16 = omega (arith, own-long s) in
     let rest : drop 16 (s .args .row .arcs) ≡ [] = drop-of-length-le (s .args .row .arcs) all in (

@@ -36,9 +36,10 @@ loop-less c = search needs
 
 loop-again : tie.Need-loop-again Inv-loop μ-loop
 loop-again c =
-    let s = c .before .before .before .before .before .before .before in
+    let head = c .before .before .before .before in
+    let l = head .loop in
+    let s = head .before .before .before in
     let steps = s .args .steps .now in
-    let l = c .before .before .before .before .loop in
     let x : ℕ = l .x - 1 in (
       omega arith,
       simp length-set (l .inv .1),

@@ -7,25 +7,26 @@ use mathlib.Core.Path.{_≡_, refl, ap, _∙_}
 use lib.ListN.{length}
 use borrow.Author.Needs.{needs}
 use Rattle.records.specs.JournalBook.{journalsOf}
-use Rattle.journal.proofs.Journals.{form-size, form-few, journal-short}
+use Rattle.journal.proofs.Journals.{form-few, journal-short}
 use Rattle.picture.proofs.Entries.{RightBelow, part-size, right-put}
 use Rattle.picture.proofs.nexts.tabulate.Statement.{statement}
 use Rattle.picture.proofs.nexts.tabulate.Tie as tie
 
 abbrev Inv-loop : tie.InvT-loop
-Inv-loop journals nexts₀ k i₀ nexts i = (i ≤ length (journalsOf journals)) × (length nexts ≡ length nexts₀) × RightBelow (journalsOf journals) i nexts
+Inv-loop journals k nexts₀ i₀ nexts i = (i ≤ k) × (length nexts ≡ length nexts₀) × RightBelow (journalsOf journals) i nexts
 
 abbrev μ-loop : tie.MeasureT-loop
-μ-loop journals nexts₀ k i₀ nexts i = k - i
+μ-loop journals k nexts₀ i₀ nexts i = k - i
+
+-- the function's start, from where a turn begins
+abbrev start : tie.In-loop Inv-loop μ-loop → tie.Start Inv-loop μ-loop
+start c = c .before .before .before .before
 
 -- the part of journal i is within the table
 inside : (c : tie.In-loop Inv-loop μ-loop) → 3216 * c .before .loop .i + 3216 ≤ length (c .before .loop .nexts)
 inside c =
-    let s = c .before .before .before .before .before in
-    omega (arith, form-few (s .args .journals .now) (s .pre .0))
-
-open-count-requires : tie.Need-open-count-requires Inv-loop μ-loop
-open-count-requires c κs = form-size (c .before .before .args .journals .now) (c .before .before .pre .0)
+    let s = start c in
+    omega (arith, s .pre .1, form-few (s .args .journals .now) (s .pre .0))
 
 loop-holds : tie.Need-loop-holds Inv-loop μ-loop
 loop-holds c = (omega arith, refl, λ i x h to. omega arith)
@@ -37,7 +38,7 @@ add-e : tie.Need-add-e Inv-loop μ-loop
 add-e c = omega (arith, inside c)
 
 journal-at-requires : tie.Need-journal-at-requires Inv-loop μ-loop
-journal-at-requires c κs = (c .before .before .before .before .before .pre .0, omega arith)
+journal-at-requires c κs = (start c .pre .0, omega arith)
 
 sub-fill-nexts : tie.Need-sub-fill-nexts Inv-loop μ-loop
 sub-fill-nexts c = search needs
@@ -50,10 +51,11 @@ part-fill-nexts-end c = omega (arith, inside (c .before))
 
 fill-nexts-requires : tie.Need-fill-nexts-requires Inv-loop μ-loop
 fill-nexts-requires c κs =
-    let s = c .before .before .before .before .before .before .before in
-    let l = c .before .before .before .loop in (
+    let turn = c .before .before in
+    let s = start turn in
+    let l = turn .before .loop in (
       omega (arith, ap length (c .before .journal-at .ensures), journal-short (s .args .journals .now) (s .pre .0) (l .i) (omega arith)),
-      part-size (3216 * l .i) 3216 (l .nexts) (inside (c .before .before)),
+      part-size (3216 * l .i) 3216 (l .nexts) (inside turn),
     )
 
 add-i : tie.Need-add-i Inv-loop μ-loop
@@ -64,9 +66,10 @@ loop-less c = search needs
 
 loop-again : tie.Need-loop-again Inv-loop μ-loop
 loop-again c =
-    let js = journalsOf (c .before .before .before .before .before .before .before .before .before .before .args .journals .now) in
-    let l = c .before .before .before .before .before .before .loop in
-    let within = inside (c .before .before .before .before .before) in
+    let turn = c .before .before .before .before .before in
+    let js = journalsOf (start turn .args .journals .now) in
+    let l = turn .before .loop in
+    let within = inside turn in
     let back = c .before .nexts .given in
     let filled = c .before .before .fill-nexts in (
       omega arith,
@@ -87,7 +90,6 @@ tabulate-spec =
     (tie.spec
     Inv-loop
     μ-loop
-    open-count-requires
     loop-holds
     mul-a
     add-e

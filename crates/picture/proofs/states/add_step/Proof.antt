@@ -9,6 +9,10 @@ use Rattle.picture.proofs.Added.{goes-in, stays-out}
 use Rattle.picture.proofs.states.add_step.Statement.{statement}
 use Rattle.picture.proofs.states.add_step.Tie as tie
 
+-- the function's start, from where the key is stepped
+abbrev start : tie.After-step-key → tie.Start
+start c = c .before .before .before
+
 step-key-requires : tie.Need-step-key-requires
 step-key-requires c κs = search needs
 
@@ -23,14 +27,19 @@ same-length c = search needs
 
 returns : tie.Need-returns
 returns c =
-    let a = c .before .before .before .before .before .before .before .before .before .args in
-    let e = goes-in (a .k) (c .before .before .before .before .before .before .step-key .result) (steppedKey (a .nexts .now) (a .k) (a .key) (a .s)) (records 16 (a .n) (a .t .now)) (c .before .before .before .before .before .before .step-key .ensures) (sym (c .before .before .before .before .before .is-live .ensures) ∙ c .before .before .before .before .if1 .taken) in
+    let taken = c .before .before .before .before in
+    let asked = taken .before in
+    let step = asked .before .step-key in
+    let a = start (asked .before) .args in
+    let e = goes-in (a .k) (step .result) (steppedKey (a .nexts .now) (a .k) (a .key) (a .s)) (records 16 (a .n) (a .t .now)) (step .ensures) (sym (asked .is-live .ensures) ∙ taken .if1 .taken) in
     (c .before .before .insert .ensures .0 ∙ e, c .before .before .insert .ensures .1 ∙ ap length e)
 
 returns-2 : tie.Need-returns-2
 returns-2 c =
-    let a = c .before .before .before .before .before .args in
-    let e = stays-out (a .k) (c .before .before .step-key .result) (steppedKey (a .nexts .now) (a .k) (a .key) (a .s)) (records 16 (a .n) (a .t .now)) (c .before .before .step-key .ensures) (sym (c .before .is-live .ensures) ∙ c .if1 .left) in
+    let asked = c .before in
+    let step = asked .before .step-key in
+    let a = start (asked .before) .args in
+    let e = stays-out (a .k) (step .result) (steppedKey (a .nexts .now) (a .k) (a .key) (a .s)) (records 16 (a .n) (a .t .now)) (step .ensures) (sym (asked .is-live .ensures) ∙ c .if1 .left) in
     (e, sym (length-records 16 (a .n) (a .t .now)) ∙ ap length e)
 
 pub add-step-spec : {M : Type 1} → statement M

@@ -1,55 +1,63 @@
--- `picture::states::find_states` meets its contract. The invariant: the rows before i are done, there are at most 1,000 keys, and the table has its length.
--- With no row left the states are the picture. The measure is 1,000 less i, since i is below the number of keys. Assumes nothing.
-use Prim.Native.Nat.{_-_}
+-- `picture::states::find_states` meets its contract. The invariant: the rows before i are done, there are at most 1,000 keys, they ascend, and the table
+-- has its length. With no row left the states are the picture. The measure is 1,000 less i, since i is below the number of keys. Assumes nothing.
+use Prim.Native.Nat.{_-_, _≤_}
 use native.Mathlib.Omega.{arith}
 use mathlib.Core.Path.{_≡_, sym, _∙_}
 use lib.ListN.{length}
 use borrow.Author.Needs.{needs}
-use Rattle.records.specs.JournalBook.{journalsOf}
-use Rattle.records.proofs.Form.{form-book}
-use Rattle.journal.proofs.Journals.{form-size}
+use Rattle.words.specs.Order.{Ascending}
+use Rattle.records.specs.Bytes.{records}
+use Rattle.picture.specs.Nexts.{AnyTabled}
 use Rattle.picture.specs.Found.{Sweeping}
-use Rattle.picture.proofs.Sweeping.{none-found, sweep-begins, sweep-ends}
+use Rattle.picture.proofs.Sweeping.{none-found, one-ascending, sweep-begins, sweep-ends}
 use Rattle.picture.proofs.states.find_states.Statement.{statement}
 use Rattle.picture.proofs.states.find_states.Tie as tie
 
 abbrev Inv-loop : tie.InvT-loop
-Inv-loop journals nexts t₀ n₀ i₀ t n i = (length t ≡ 16016) × Sweeping (journalsOf journals) i 0 n t
+Inv-loop nexts k t₀ n₀ i₀ t n i =
+    (length t ≡ 16016) × (n ≤ 1000) × Ascending (records 16 n t) × AnyTabled nexts k (λ js. Sweeping js i 0 n t)
 
 abbrev μ-loop : tie.MeasureT-loop
-μ-loop journals nexts t₀ n₀ i₀ t n i = 1000 - i
+μ-loop nexts k t₀ n₀ i₀ t n i = 1000 - i
 
-open-count-requires : tie.Need-open-count-requires Inv-loop μ-loop
-open-count-requires c κs = form-size (c .before .before .before .args .journals .now) (c .before .before .before .pre .0)
+-- the function's start, from where there is a journal, and that from where the loop starts
+abbrev start : tie.Else1 Inv-loop μ-loop → tie.Start Inv-loop μ-loop
+start c = c .before .before .before
+
+abbrev some : tie.After-slice-known2 Inv-loop μ-loop → tie.Else1 Inv-loop μ-loop
+some c = c .before .before .before .before
 
 returns : tie.Need-returns Inv-loop μ-loop
-returns c =
-    let a = c .before .before .before .before .before .args in
-    none-found (journalsOf (a .journals .now)) (a .t .now) (sym (c .before .open-count .ensures) ∙ c .if1 .taken)
+returns c js are many tabled = none-found js (c .before .before .before .args .t .now) (many ∙ c .if1 .taken)
 
 put-requires : tie.Need-put-requires Inv-loop μ-loop
 put-requires c κs = search needs
 
 loop-holds : tie.Need-loop-holds Inv-loop μ-loop
 loop-holds c =
-    let a = c .before .before .before .before .before .before .before .before .before .args in
-    let p = c .before .before .before .before .before .before .before .before .before .pre in
+    let s = start (some c) in
     let put = c .before .before .put in (
-      put .kept .0 ∙ p .3,
-      sweep-begins (journalsOf (a .journals .now)) (form-book (a .journals .now) (p .0) .0) (λ z. c .before .before .before .before .if1 .left (c .before .before .before .before .before .open-count .ensures ∙ z)) (a .t .now) (put .last .0) (put .ensures),
+      put .kept .0 ∙ s .pre .2,
+      omega arith,
+      one-ascending (put .last .0),
+      λ js are many tabled. sweep-begins js are (λ z. some c .if1 .left (sym many ∙ z)) (s .args .t .now) (put .last .0) (put .ensures),
     )
 
 grow-row-requires : tie.Need-grow-row-requires Inv-loop μ-loop
 grow-row-requires c κs =
     let l = c .before .before .loop in
-    let p = c .before .before .before .before .before .before .before .before .before .before .before .before .pre in
-    (p .0, p .1, p .2, l .inv .0, search needs, l .inv .1)
+    let p = start (some (c .before .before .before)) .pre in
+    (p .0, p .1, l .inv .0, search needs, l .inv .1, l .inv .2, l .inv .3)
 
 same-length : tie.Need-same-length Inv-loop μ-loop
 same-length c = search needs
 
 returns-2 : tie.Need-returns-2 Inv-loop μ-loop
-returns-2 c = record { few = λ h. absurd (omega (arith, c .if2 .taken)); most = c .before .before .before .grow-row .ensures .most }
+returns-2 c js are many tabled =
+    record {
+      few = λ h. absurd (omega (arith, c .if2 .taken));
+      most = c .before .before .before .grow-row .ensures .1 js are many tabled .most;
+    }
 
 add-i : tie.Need-add-i Inv-loop μ-loop
 add-i c = search needs
@@ -58,16 +66,22 @@ loop-less : tie.Need-loop-less Inv-loop μ-loop
 loop-less c = search needs
 
 loop-again : tie.Need-loop-again Inv-loop μ-loop
-loop-again c = (c .before .before .before .grow-row .kept .1 .1 .0 ∙ c .before .before .before .before .before .before .loop .inv .0, c .before .before .before .grow-row .ensures .few (c .if2 .left))
+loop-again c =
+    let grown = c .before .before .before in
+    let l = grown .before .before .before .loop in (
+      grown .grow-row .kept .1 .1 .0 ∙ l .inv .0,
+      c .if2 .left,
+      grown .grow-row .ensures .0,
+      λ js are many tabled. grown .grow-row .ensures .1 js are many tabled .few (c .if2 .left),
+    )
 
 same-length-2 : tie.Need-same-length-2 Inv-loop μ-loop
 same-length-2 c = search needs
 
 returns-3 : tie.Need-returns-3 Inv-loop μ-loop
-returns-3 c =
+returns-3 c js are many tabled =
     let l = c .before .loop in
-    let a = c .before .before .before .before .before .before .before .before .before .before .before .args in
-    sweep-ends (journalsOf (a .journals .now)) (form-book (a .journals .now) (c .before .before .before .before .before .before .before .before .before .before .before .pre .0) .0) (l .i) (l .n) (l .t) (omega arith) (l .inv .1)
+    sweep-ends js are (l .i) (l .n) (l .t) (omega arith) (l .inv .3 js are many tabled)
 
 pub find-states-spec : {M : Type 1} → statement M
 find-states-spec =
@@ -75,7 +89,6 @@ find-states-spec =
     (tie.spec
     Inv-loop
     μ-loop
-    open-count-requires
     returns
     put-requires
     loop-holds
