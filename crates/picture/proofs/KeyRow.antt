@@ -1,4 +1,4 @@
--- The row of a key: its arc by whether the key that a step leads to is live, its arcs by step, and the width of its record. Assumes nothing.
+-- The arcs of a key: one by whether the key that its step leads to is live, and all by step. Assumes nothing.
 use Prim.Native.Nat.{ℕ, _<_}
 use mathlib.Core.Path.{_≡_, refl, sym}
 use mathlib.Core.Bool.{true, false}
@@ -6,11 +6,9 @@ use mathlib.Core.List.{List}
 use lib.ListN.{length, take, getD}
 use Rattle.words.specs.Places.{live}
 use Rattle.words.proofs.Codes.{at-step}
-use Rattle.records.specs.RowBook.{countByte, behindCount}
-use Rattle.records.proofs.RowRecord.{record-length}
 use Rattle.table.specs.Keys.{rankOf}
 use Rattle.picture.specs.Stepped.{steppedKey}
-use Rattle.picture.specs.KeyRow.{keyArc, keyArcs, keyRow}
+use Rattle.picture.specs.KeyRow.{keyArc, keyArcs}
 
 module _ (nexts : List ℕ) (k : ℕ) (keys : List (List ℕ)) (key : List ℕ) where
   module _ (s : ℕ) (to : List ℕ) (e : to ≡ steppedKey nexts k key s) where
@@ -33,7 +31,3 @@ module _ (nexts : List ℕ) (k : ℕ) (keys : List (List ℕ)) (key : List ℕ) 
   pub arc-at : (s : ℕ) → s < 16 → keyArc nexts k keys key s ≡ getD (keyArcs nexts k keys key) s 0
   unfolding keyArcs
   arc-at s h = sym (at-step (keyArc nexts k keys key) s h)
-
-  -- a key's record has 64 bytes
-  pub key-row-length : length key ≡ 16 → length (keyRow nexts k keys key) ≡ 64
-  key-row-length h = record-length key (keyArcs nexts k keys key) (countByte (take k key)) behindCount h length-arcs refl

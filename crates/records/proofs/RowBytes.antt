@@ -4,7 +4,7 @@ use Prim.Native.Nat.{ℕ, _+_, _-_, _*_, _≤_, _<_}
 use native.Mathlib.Omega.{arith}
 use mathlib.Core.Path.{_≡_, refl, ap, _∙_}
 use mathlib.Core.Bool.{true}
-use mathlib.Core.List.{List, [], _++_, List·Memᴰ}
+use mathlib.Core.List.{List, List·Memᴰ}
 use lib.ListN.{length, getD, replicate, length-append, length-replicate}
 use Rattle.records.specs.Bytes.{flat}
 use Rattle.records.specs.RowBook.{placeBytes, countByte, behindCount, rowBytes, rowBook, countAt, arcAt}
