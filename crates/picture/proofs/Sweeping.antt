@@ -10,11 +10,12 @@ use lib.Seq.{paste}
 use Rattle.words.specs.Order.{Ascending}
 use Rattle.words.specs.Places.{state, step, live}
 use Rattle.words.specs.Picture.{keep, picture}
+use Rattle.words.specs.Sweep.{Partial}
 use Rattle.words.specs.Words.{AreJournals}
 use Rattle.words.proofs.Place.{Short, short}
 use Rattle.words.proofs.Rows.{at-mem, live-after}
 use Rattle.words.proofs.Steps.{step-length}
-use Rattle.words.proofs.Sweep.{Partial, sweep-start, partial-width, dead-step, live-step, too-many, row-done, all-done, insert-keeps}
+use Rattle.words.proofs.Sweep.{sweep-start, partial-width, dead-step, live-step, too-many, row-done, all-done, insert-keeps}
 use Rattle.words.proofs.Test.{test}
 use Rattle.records.specs.Bytes.{records}
 use Rattle.records.specs.RowBook.{placeBytes}

@@ -4,7 +4,7 @@ use mathlib.Core.Path.{_≡_}
 use mathlib.Core.List.{List, map}
 use lib.ListN.{length, take}
 use Rattle.words.specs.Picture.{picture}
-use Rattle.words.proofs.Sweep.{Partial}
+use Rattle.words.specs.Sweep.{Partial}
 use Rattle.records.specs.Sizes.{mostRows}
 use Rattle.records.specs.Bytes.{records}
 use Rattle.records.specs.RowBook.{placeBytes}

@@ -12,6 +12,7 @@ use borrow.Author.Tests.{eqb-true, eqb-false}
 use Rattle.words.specs.Order.{before, Ascending}
 use Rattle.words.specs.Picture.{insert, picture}
 use Rattle.words.specs.Places.{state, step, live, LiveState}
+use Rattle.words.specs.Sweep.{Partial}
 use Rattle.words.proofs.Closed.{closed-picture, sub-length}
 use Rattle.words.proofs.Members.{picture-members, picture-ascending}
 use Rattle.words.proofs.Order.{before-asym, before-trans, insert-here, insert-old, insert-only, insert-ascending}
@@ -41,14 +42,6 @@ pub length-insert : (q : List ℕ) (l : List (List ℕ)) → length l ≤ length
 length-insert q [] = omega arith
 length-insert q (a ∷ l) =
     test (before q a) (λ t. rw t (omega arith)) (λ f. test (before a q) (λ t. rw (f, t) (omega (arith, length-insert q l))) (λ g. rw (f, g) (omega arith)))
-
--- the rows before i are done, and of row i the steps below s
-pub record Partial (js : List (List ℕ)) (i s : ℕ) (l : List (List ℕ)) : Type 0 where
-  pub ascending : Ascending l
-  pub each : (x : List ℕ) → Mem x l → LiveState js x
-  pub start : live (state js []) ≡ true → Mem (state js []) l
-  pub rows : (k : ℕ) → k < i → (t : ℕ) → t < 16 → live (step js (getD l k []) t) ≡ true → Mem (step js (getD l k []) t) l
-  pub row : (t : ℕ) → t < s → live (step js (getD l i []) t) ≡ true → Mem (step js (getD l i []) t) l
 
 -- the pass begins with the empty word's state alone
 pub sweep-start : (j : List ℕ) (js : List (List ℕ)) → Partial (j ∷ js) 0 0 (state (j ∷ js) [] ∷ [])
