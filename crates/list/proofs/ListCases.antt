@@ -8,7 +8,6 @@ use lib.ListN.{length, take, drop, getD, length-drop}
 use lib.Seq.{length-take-le}
 use lib.Dec.{eqb, ltb}
 use borrow.Author.Tests.{eq-eqb, eqb-true, lt-ltb, le-ltb, ltb-false, not-false}
-use Rattle.words.specs.Words.{count}
 use Rattle.words.specs.Listing.{listOf}
 use Rattle.words.proofs.Dictionary.{list-ascending}
 use Rattle.words.proofs.Past.{past-suffix}

@@ -4,8 +4,8 @@ use Prim.Native.Nat.{ℕ, _+_, _*_, _≤_, _<_, _-_}
 use native.Mathlib.Omega.{arith}
 use mathlib.Core.Path.{_≡_, refl, sym, ap, _∙_}
 use mathlib.Core.Bool.{true, false}
-use mathlib.Core.List.{List, [], _∷_, _++_, append-assoc, append-nil}
-use lib.ListN.{length, take, drop, length-append, length-take, length-drop, drop-of-length-le}
+use mathlib.Core.List.{List, [], _∷_, _++_, append-assoc}
+use lib.ListN.{length, take, drop, length-append, length-take, length-drop}
 use lib.Seq.{take-at, drop-at, take-all, take-add, drop-drop, length-take-le}
 use lib.Dec.{ltb}
 use borrow.Author.Tests.{lt-ltb, le-ltb}
@@ -21,12 +21,11 @@ use Rattle.list.specs.Moving.{stepsIn, moved, Fit}
 use Rattle.list.specs.declared.word.Moved.{Moved}
 use Rattle.list.proofs.Ends.{EndOf, next-in, none-in, past-in}
 
--- the part from byte k on, lent to be written at its front, is back
-pub part-back : (xs ys v : List ℕ) (k : ℕ) → k ≤ length xs → ys ≡ v ++ drop 16 (take (length xs - k) (drop k xs))
-    → take k xs ++ (ys ++ drop (length xs - k) (drop k xs)) ≡ take k xs ++ (v ++ drop 16 (drop k xs))
-part-back xs ys v k h e =
-    let l : length (drop k xs) ≤ length xs - k = omega (arith, length-drop k xs) in
-    rw (e, take-all (length xs - k) (drop k xs) l, drop-of-length-le (drop k xs) l, append-nil (v ++ drop 16 (drop k xs)))
+-- the part of 16 bytes from byte k on, lent to be written, is back
+pub part-back : (xs ys v : List ℕ) (k : ℕ) → ys ≡ v → take k xs ++ (ys ++ drop (k + 16 - k) (drop k xs)) ≡ take k xs ++ (v ++ drop 16 (drop k xs))
+part-back xs ys v k e =
+    let n : k + 16 - k ≡ 16 = omega arith in
+    rw (e, n)
 
 module _ (n : ℕ) (d : List (List ℕ)) (out₀ : List ℕ) where
   -- i words of d are written, and m is the next one, if there is one

@@ -5,9 +5,8 @@ use crate::word::Moved;
 use crate::word::Word;
 use records::WORD_RECORD;
 ghost use mathlib.Core.Path.{_≡_};
-ghost use mathlib.Core.List.{_++_};
 ghost use Prim.Native.Nat.{_/_, _≤_};
-ghost use lib.ListN.{length, take, drop, getD};
+ghost use lib.ListN.{length, take, getD};
 ghost use lib.Dec.{ltb};
 ghost use Rattle.records.specs.Sizes.{wordRecordSize, longestWord};
 ghost use Rattle.words.specs.Listing.{listOf, Falling};
@@ -38,10 +37,10 @@ fn record_byte(w: Word, i: usize) -> u8
     steps[i - 1]
 }
 
-// Writes a word's record into the first 16 bytes.
+// Writes a word's record into its own 16 bytes.
 fn write_record(out: &mut [u8], w: Word)
-    requires { ⌜ (w .len ≤ longestWord) × (wordRecordSize ≤ length (now out)) ⌝ }
-    ensures { λ _. ⌜ now (out .exit) ≡ wordRecord (stepsIn w) ++ drop wordRecordSize (now (out .entry)) ⌝ }
+    requires { ⌜ (w .len ≤ longestWord) × (length (now out) ≡ wordRecordSize) ⌝ }
+    ensures { λ _. ⌜ now (out .exit) ≡ wordRecord (stepsIn w) ⌝ }
 {
     let mut i = 0;
     while i < WORD_RECORD {
@@ -74,7 +73,8 @@ pub(crate) fn write_page(
             };
         }
         let start = WORD_RECORD * i;
-        write_record(&mut out[start..], at.word);
+        let end = start + WORD_RECORD;
+        write_record(&mut out[start..end], at.word);
         at = next_word(rows, quorum, limit, at.word);
         i += 1;
     }

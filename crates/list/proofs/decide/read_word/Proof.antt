@@ -2,7 +2,6 @@
 -- is left of 15. Assumes nothing.
 use Prim.Native.Nat.{ℕ, _+_, _≤_, _-_}
 use mathlib.Core.Path.{_≡_, refl, sym, ap, _∙_}
-use mathlib.Core.List.{append-nil}
 use native.Mathlib.Omega.{arith}
 use lib.ListN.{length, take, drop, getD, replicate, length-set, length-drop}
 use lib.Seq.{paste, getD-drop}
@@ -55,7 +54,7 @@ returns c =
     let l = c .before .before .loop in
     let e : l .i ≡ 15 = omega arith in
     let n : length (drop 1 r) ≡ 15 = omega (arith, length-drop 1 r) in
-    let steps = l .inv .2 ∙ ap (λ (k : ℕ). paste (replicate 15 0) 0 (drop 1 r) k) e ∙ pasted-all (replicate 15 0) (drop 1 r) 15 n ∙ append-nil (drop 1 r) in
+    let steps = l .inv .2 ∙ ap (λ (k : ℕ). paste (replicate 15 0) 0 (drop 1 r) k) e ∙ pasted-all (replicate 15 0) (drop 1 r) 15 n refl in
     (refl, ap (take (getD r 0 0)) steps)
 
 pub read-word-spec : {M : Type 1} → statement M

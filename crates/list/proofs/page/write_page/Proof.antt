@@ -1,7 +1,8 @@
 -- `list::page::write_page` meets its contract. What is to be written is an end of the list. The invariant: i of its words stand in the output, and the
 -- word at hand is the next one, if there is one (`PageAt`). The measure is what is left of the room. Assumes nothing.
-use Prim.Native.Nat.{_*_, _/_, _≤_, _-_}
+use Prim.Native.Nat.{ℕ, _*_, _/_, _≤_, _-_}
 use mathlib.Core.Path.{_≡_, refl}
+use mathlib.Core.List.{List}
 use native.Mathlib.Omega.{arith}
 use lib.ListN.{length, length-take, length-drop}
 use borrow.Author.Needs.{needs}
@@ -23,21 +24,31 @@ Inv-loop rows quorum limit out₀ room at₀ i₀ out at i =
 abbrev μ-loop : tie.MeasureT-loop
 μ-loop rows quorum limit out₀ room at₀ i₀ out at i = room - i
 
+-- what is to be written
+abbrev due : tie.Start Inv-loop μ-loop → List (List ℕ)
+due s = fromThere (moved (s .args .first)) (listOf (tableOf (s .args .rows .now)) (s .args .quorum) (s .args .limit))
+
 loop-holds : tie.Need-loop-holds Inv-loop μ-loop
 loop-holds c =
-    let a = c .before .before .args in
-    (page-start (a .limit) (fromThere (moved (a .first)) (listOf (tableOf (a .rows .now)) (a .quorum) (a .limit))) (a .out .now) (a .first) (c .before .before .pre .3) (c .before .before .pre .1), search needs, refl)
+    let at-start = c .before .before in
+    let a = at-start .args in
+    (page-start (a .limit) (due at-start) (a .out .now) (a .first) (at-start .pre .3) (at-start .pre .1), search needs, refl)
 
 same-length : tie.Need-same-length Inv-loop μ-loop
 same-length c = search needs
 
 returns : tie.Need-returns Inv-loop μ-loop
 returns c =
-    let a = c .before .before .before .before .before .before .args in
-    page-stop (a .limit) (fromThere (moved (a .first)) (listOf (tableOf (a .rows .now)) (a .quorum) (a .limit))) (a .out .now) (length (a .out .now) / 16) (c .before .before .before .loop .inv .0) (omega arith) (not-true _ (c .if1 .taken))
+    let at-loop = c .before .before .before in
+    let at-start = at-loop .before .before .before in
+    let a = at-start .args in
+    page-stop (a .limit) (due at-start) (a .out .now) (length (a .out .now) / 16) (at-loop .loop .inv .0) (omega arith) (not-true _ (c .if1 .taken))
 
 mul-start : tie.Need-mul-start Inv-loop μ-loop
 mul-start c = search needs
+
+add-end : tie.Need-add-end Inv-loop μ-loop
+add-end c = search needs
 
 sub-write-record : tie.Need-sub-write-record Inv-loop μ-loop
 sub-write-record c = search needs
@@ -50,11 +61,15 @@ part-write-record-end c = search needs
 
 write-record-requires : tie.Need-write-record-requires Inv-loop μ-loop
 write-record-requires c κs =
-    let l = c .before .before .before .before .loop in
-    (omega (arith, l .inv .0 .fit .short), simp (length-take, length-drop) (omega arith))
+    let at-loop = c .before .before .before .before in
+    (omega (arith, at-loop .loop .inv .0 .fit .short), simp (length-take, length-drop) (omega arith))
 
 next-word-requires : tie.Need-next-word-requires Inv-loop μ-loop
-next-word-requires c κs = (c .before .before .before .before .before .before .before .before .before .before .pre .0, c .before .before .before .before .before .before .before .loop .inv .0 .fit, c .before .before .before .before .before .before .before .before .before .before .pre .2)
+next-word-requires c κs =
+    let at-write = c .before .before in
+    let at-loop = at-write .before .before .before .before .before in
+    let at-start = at-loop .before .before .before in
+    (at-start .pre .0, at-loop .loop .inv .0 .fit, at-start .pre .2)
 
 add-i : tie.Need-add-i Inv-loop μ-loop
 add-i c = search needs
@@ -64,22 +79,28 @@ loop-less c = search needs
 
 loop-again : tie.Need-loop-again Inv-loop μ-loop
 loop-again c =
-    let a = c .before .before .before .before .before .before .before .before .before .before .before .args in
-    let l = c .before .before .before .before .before .before .before .before .loop in
+    let at-write = c .before .before .before in
+    let at-found = at-write .before .before in
+    let at-loop = at-found .before .before .before in
+    let at-start = at-loop .before .before .before in
+    let a = at-start .args in
+    let l = at-loop .loop in
     let words = listOf (tableOf (a .rows .now)) (a .quorum) (a .limit) in
-    let d = fromThere (moved (a .first)) words in
-    let r = wordRecord (stepsIn (l .at .word)) in
-    let o = part-back (l .out) (c .before .before .before .write-record .last .0) r (16 * l .i) (omega arith) (c .before .before .before .write-record .ensures) in
-    let p = page-turn (a .limit) d (a .out .now) (c .before .before .before .before .before .before .before .before .before .before .before .pre .0) (l .inv .0) (not-false _ (c .before .before .before .before .before .if1 .left)) (omega arith) words (list-ascending (tableOf (a .rows .now)) (a .quorum) (a .limit)) (there-end (moved (a .first)) words (list-ascending (tableOf (a .rows .now)) (a .quorum) (a .limit))) (c .next-word .result) (c .next-word .ensures .0) (c .next-word .ensures .1) _ o in
-    (p, omega arith, page-length (a .limit) d (a .out .now) p)
+    let rising = list-ascending (tableOf (a .rows .now)) (a .quorum) (a .limit) in
+    let o = part-back (l .out) (at-write .write-record .last .0) (wordRecord (stepsIn (l .at .word))) (16 * l .i) (at-write .write-record .ensures) in
+    let p =
+    page-turn (a .limit) (due at-start) (a .out .now) (at-start .pre .0) (l .inv .0) (not-false _ (at-found .if1 .left)) (omega arith) words rising (there-end (moved (a .first)) words rising) (c .next-word .result) (c .next-word .ensures .0) (c .next-word .ensures .1) _ o in
+    (p, omega arith, page-length (a .limit) (due at-start) (a .out .now) p)
 
 same-length-2 : tie.Need-same-length-2 Inv-loop μ-loop
 same-length-2 c = search needs
 
 returns-2 : tie.Need-returns-2 Inv-loop μ-loop
 returns-2 c =
-    let a = c .before .before .before .before .args in
-    page-full (a .limit) (fromThere (moved (a .first)) (listOf (tableOf (a .rows .now)) (a .quorum) (a .limit))) (a .out .now) (length (a .out .now) / 16) (c .before .loop .inv .0) (omega arith)
+    let at-loop = c .before in
+    let at-start = at-loop .before .before .before in
+    let a = at-start .args in
+    page-full (a .limit) (due at-start) (a .out .now) (length (a .out .now) / 16) (at-loop .loop .inv .0) (omega arith)
 
 pub write-page-spec : {M : Type 1} → statement M
 write-page-spec =
@@ -91,6 +112,7 @@ write-page-spec =
     same-length
     returns
     mul-start
+    add-end
     sub-write-record
     part-write-record-start
     part-write-record-end

@@ -1,4 +1,4 @@
--- `list::page::write_record` meets its contract. The invariant: the first i bytes of the record stand over the first i of the output, and the others
+-- `list::page::write_record` meets its contract. The invariant: the first i bytes of the record stand over the first i of the part, and the others
 -- are as they were. The measure is what is left of 16. Assumes nothing.
 use Prim.Native.Nat.{ℕ, _≤_, _-_}
 use mathlib.Core.Path.{_≡_, ap, _∙_}
@@ -52,7 +52,7 @@ returns c =
     let w = wordRecord (stepsIn (a .w)) in
     let n : length w ≡ 16 = step-bytes-length 15 (stepsIn (a .w)) (omega (arith, length-take (a .w .len) (a .w .steps))) in
     let e : l .i ≡ 16 = omega arith in
-    l .inv .2 ∙ ap (λ (k : ℕ). paste (a .out .now) 0 w k) e ∙ pasted-all (a .out .now) w 16 n
+    l .inv .2 ∙ ap (λ (k : ℕ). paste (a .out .now) 0 w k) e ∙ pasted-all (a .out .now) w 16 n (search needs)
 
 pub write-record-spec : {M : Type 1} → statement M
 write-record-spec =
