@@ -104,46 +104,53 @@ module _ (a : Asked) where
   pub size-wrong : (not (eqb (length r) 16) || wrongOutput out) ≡ true → 1 ≡ first (listRefusals a)
   size-wrong t = test (rightSizes jb rb) (λ w. rw (w, t)) (λ w. rw w)
 
-  module _ (l : length r ≡ 16) (o : wrongOutput out ≡ false) where
-    books-first : first (listRefusals a) ≡ first (record { holds = not (rightSizes jb rb); number = 1 } ∷ record { holds = not (sound jb rb); number = 2 } ∷ others)
-    books-first = test (rightSizes jb rb) (λ w. rw (w, eq-eqb (length r) 16 l, o)) (λ w. rw w)
+  -- what is known where the sizes are right and the check has found no fault
+  pub record Seen : Type 0 where
+    pub word-sized : length r ≡ 16
+    pub out-sized : wrongOutput out ≡ false
+    pub books-sound : checkCall jb rb .number ≡ 0
 
-    -- a fault of the books
-    pub books-wrong : (checkCall jb rb .number ≡ 0 → ⊥) → checkCall jb rb .number ≡ first (listRefusals a)
-    books-wrong h = seen-refused jb rb others h ∙ sym books-first
+  books-first : length r ≡ 16 → wrongOutput out ≡ false
+      → first (listRefusals a) ≡ first (record { holds = not (rightSizes jb rb); number = 1 } ∷ record { holds = not (sound jb rb); number = 2 } ∷ others)
+  books-first l o = test (rightSizes jb rb) (λ w. rw (w, eq-eqb (length r) 16 l, o)) (λ w. rw w)
 
-    module _ (e : checkCall jb rb .number ≡ 0) where
-      behind : first (listRefusals a) ≡ first others
-      behind = books-first ∙ seen-sound jb rb others e
+  -- a fault of the books
+  pub books-wrong : length r ≡ 16 → wrongOutput out ≡ false → (checkCall jb rb .number ≡ 0 → ⊥) → checkCall jb rb .number ≡ first (listRefusals a)
+  books-wrong l o h = seen-refused jb rb others h ∙ sym (books-first l o)
 
-      -- a length above 15
-      pub limit-wrong : 15 < n → 9 ≡ first (listRefusals a)
-      limit-wrong h = sym (behind ∙ rw (lt-ltb 15 n h))
+  module _ (seen : Seen) where
+    behind : first (listRefusals a) ≡ first others
+    behind = books-first (seen .word-sized) (seen .out-sized) ∙ seen-sound jb rb others (seen .books-sound)
 
-      module _ (h : n ≤ 15) where
-        quorum-said : (ltb q 1 || ltb (tableOf rb []) q) ≡ (ltb q 1 || ltb (length (journalsOf jb)) q)
-        quorum-said = ap (λ (k : ℕ). ltb q 1 || ltb k q) (empty-count jb rb (check-sound jb rb .0 e))
+    -- a length above 15
+    pub limit-wrong : 15 < n → 9 ≡ first (listRefusals a)
+    limit-wrong h = sym (behind ∙ rw (lt-ltb 15 n h))
 
-        word-said : (eqb (journalCountCall jb r .number) 10 || ltb n (getD r 0 0)) ≡ (not (wordForm r) || ltb n (length (wordOf r)))
-        word-said =
-            let s = checked-sizes jb rb e in
-            test (wordForm r) (λ t. rw (word-counted jb r (s .0) l t (s .2), t, form-length r l t)) (λ f. rw (word-wrong jb r (s .0) l f, f))
+    module _ (h : n ≤ 15) where
+      quorum-said : (ltb q 1 || ltb (tableOf rb []) q) ≡ (ltb q 1 || ltb (length (journalsOf jb)) q)
+      quorum-said = ap (λ (k : ℕ). ltb q 1 || ltb k q) (empty-count jb rb (check-sound jb rb .0 (seen .books-sound)))
 
-        -- a quorum below 1 or above the number of journals
-        pub quorum-wrong : (ltb q 1 || ltb (tableOf rb []) q) ≡ true → 8 ≡ first (listRefusals a)
-        quorum-wrong t = sym (behind ∙ rw (le-ltb 15 n h, sym quorum-said ∙ t))
+      word-said : (eqb (journalCountCall jb r .number) 10 || ltb n (getD r 0 0)) ≡ (not (wordForm r) || ltb n (length (wordOf r)))
+      word-said =
+          let s = checked-sizes jb rb (seen .books-sound) in
+          let l = seen .word-sized in
+          test (wordForm r) (λ t. rw (word-counted jb r (s .0) l t (s .2), t, form-length r l t)) (λ f. rw (word-wrong jb r (s .0) l f, f))
 
-        module _ (k : (ltb q 1 || ltb (tableOf rb []) q) ≡ false) where
-          -- a word of wrong form or longer than the list length
-          pub word-refused : after ≡ true → (eqb (journalCountCall jb r .number) 10 || ltb n (getD r 0 0)) ≡ true → 10 ≡ first (listRefusals a)
-          word-refused y t = sym (behind ∙ rw (le-ltb 15 n h, sym quorum-said ∙ k, y, sym word-said ∙ t))
+      -- a quorum below 1 or above the number of journals
+      pub quorum-wrong : (ltb q 1 || ltb (tableOf rb []) q) ≡ true → 8 ≡ first (listRefusals a)
+      quorum-wrong t = sym (behind ∙ rw (le-ltb 15 n h, sym quorum-said ∙ t))
 
-          -- nothing
-          pub word-taken : after ≡ true → (eqb (journalCountCall jb r .number) 10 || ltb n (getD r 0 0)) ≡ false → 0 ≡ first (listRefusals a)
-          word-taken y f = sym (behind ∙ rw (le-ltb 15 n h, sym quorum-said ∙ k, y, sym word-said ∙ f))
+      module _ (k : (ltb q 1 || ltb (tableOf rb []) q) ≡ false) where
+        -- a word of wrong form or longer than the list length
+        pub word-refused : after ≡ true → (eqb (journalCountCall jb r .number) 10 || ltb n (getD r 0 0)) ≡ true → 10 ≡ first (listRefusals a)
+        word-refused y t = sym (behind ∙ rw (le-ltb 15 n h, sym quorum-said ∙ k, y, sym word-said ∙ t))
 
-          pub word-unasked : after ≡ false → 0 ≡ first (listRefusals a)
-          word-unasked y = sym (behind ∙ rw (le-ltb 15 n h, sym quorum-said ∙ k, y))
+        -- nothing
+        pub word-taken : after ≡ true → (eqb (journalCountCall jb r .number) 10 || ltb n (getD r 0 0)) ≡ false → 0 ≡ first (listRefusals a)
+        word-taken y f = sym (behind ∙ rw (le-ltb 15 n h, sym quorum-said ∙ k, y, sym word-said ∙ f))
+
+        pub word-unasked : after ≡ false → 0 ≡ first (listRefusals a)
+        word-unasked y = sym (behind ∙ rw (le-ltb 15 n h, sym quorum-said ∙ k, y))
 
   -- what stands when nothing is refused
   pub list-allowed : (m : ℕ) → m ≡ first (listRefusals a) → m ≡ 0 → Allowed a

@@ -1,12 +1,29 @@
 -- `list::list` meets its contract: the number is decided first; then the first word that is due is sought, and the page from it on is the page of what
 -- is due, since that is an end of the list by the table count, which on sound books is the list of the journals. Assumes nothing.
+use Rattle.words.specs.Listing.{Falling}
 use Rattle.list.specs.Moving.{moved}
-use Rattle.list.specs.ListCall.{asked}
-use Rattle.list.proofs.ListCases.{list-allowed, list-wrong, list-done, due-first}
+use Rattle.list.specs.Next.{tableOf}
+use Rattle.list.specs.ListCall.{Asked, asked}
+use Rattle.list.proofs.ListCases.{Allowed, list-allowed, list-wrong, list-done, due-first}
 use Rattle.list.proofs.Tabled.{table-falls}
 use borrow.Author.Needs.{needs}
 use Rattle.list.proofs.list.Statement.{statement}
 use Rattle.list.proofs.list.Tie as tie
+
+-- the call as it was made
+abbrev call : tie.After-decide → Asked
+call c =
+    let a = c .before .before .before .before .before .before .args in
+    asked (a .journals .now) (a .rows .now) (a .quorum) (a .limit) (a .after) (a .word-record .now) (a .out .now)
+
+-- past the number: nothing is refused
+allowed : (c : tie.Else1) → Allowed (call (c .before))
+allowed c = list-allowed (call (c .before)) _ (c .before .decide .ensures) (c .if1 .left)
+
+falls : (c : tie.Else1) → Falling (tableOf (call (c .before) .rows))
+falls c =
+    let g = call (c .before) in
+    table-falls (g .journals) (g .rows) (allowed c .right)
 
 decide-requires : tie.Need-decide-requires
 decide-requires c κs = search needs
@@ -15,35 +32,29 @@ same-length : tie.Need-same-length
 same-length c = search needs
 
 returns : tie.Need-returns
-returns c =
-    let a = c .before .before .before .before .before .before .before .args in
-    let g = asked (a .journals .now) (a .rows .now) (a .quorum) (a .limit) (a .after) (a .word-record .now) (a .out .now) in
-    list-wrong g _ (c .before .decide .ensures) (c .if1 .taken)
+returns c = list-wrong (call (c .before)) _ (c .before .decide .ensures) (c .if1 .taken)
 
 first-due-requires : tie.Need-first-due-requires
-first-due-requires c κs =
-    let a = c .before .before .before .before .before .before .before .args in
-    let g = asked (a .journals .now) (a .rows .now) (a .quorum) (a .limit) (a .after) (a .word-record .now) (a .out .now) in
-    let al = list-allowed g _ (c .before .decide .ensures) (c .if1 .left) in
-    (al .limit, table-falls (a .journals .now) (a .rows .now) (al .right), al .word)
+first-due-requires c κs = (allowed c .limit, falls c, allowed c .word)
 
 write-page-requires : tie.Need-write-page-requires
 write-page-requires c κs =
-    let a = c .before .before .before .before .before .before .before .before .before .args in
-    let g = asked (a .journals .now) (a .rows .now) (a .quorum) (a .limit) (a .after) (a .word-record .now) (a .out .now) in
-    let al = list-allowed g _ (c .before .before .before .decide .ensures) (c .before .before .if1 .left) in
-    (al .limit, c .before .first-due .ensures .1, table-falls (a .journals .now) (a .rows .now) (al .right), due-first g (moved (c .before .first-due .result)) (c .before .first-due .ensures .0))
+    let at-first = c .before in
+    let at-done = at-first .before in
+    let f = at-first .first-due in
+    (allowed at-done .limit, f .ensures .1, falls at-done, due-first (call (at-done .before)) (moved (f .result)) (f .ensures .0))
 
 same-length-2 : tie.Need-same-length-2
 same-length-2 c = search needs
 
 returns-2 : tie.Need-returns-2
 returns-2 c =
-    let a = c .before .before .before .before .before .before .before .before .before .before .before .before .args in
-    let g = asked (a .journals .now) (a .rows .now) (a .quorum) (a .limit) (a .after) (a .word-record .now) (a .out .now) in
-    let m = moved (c .before .before .before .before .first-due .result) in
-    let p = c .before .before .write-page in
-    list-done g _ (c .before .before .before .before .before .before .decide .ensures) (c .before .before .before .before .before .if1 .left) m (c .before .before .before .before .first-due .ensures .0) (p .result .written) (p .result .more) _ (p .ensures .0) (p .ensures .1 .0) (p .ensures .1 .1)
+    let at-page = c .before .before in
+    let at-first = at-page .before .before in
+    let at-done = at-first .before in
+    let f = at-first .first-due in
+    let p = at-page .write-page in
+    list-done (call (at-done .before)) _ (at-done .before .decide .ensures) (at-done .if1 .left) (moved (f .result)) (f .ensures .0) (p .result .written) (p .result .more) _ (p .ensures .0) (p .ensures .1 .0) (p .ensures .1 .1)
 
 pub list-spec : {M : Type 1} → statement M
 list-spec =

@@ -68,12 +68,14 @@ loop-less c =
 
 loop-again : tie.Need-loop-again Inv-loop μ-loop
 loop-again c =
-    let s = c .before .before .before .before .before .before .before in
+    let at-reaches = c .before .before .before in
+    let at-loop = at-reaches .before .before in
+    let s = at-loop .before .before in
     let a = s .args in
-    let l = c .before .before .before .before .before .loop in
+    let l = at-loop .loop in
     let v = l .v in
-    let f : l .found ≡ true = c .before .before .before .before .loop-test .taken in
-    let r : leb (a .quorum) (tableOf (a .rows .now) (stepsIn v)) ≡ false = sym (c .before .before .before .reaches .ensures) ∙ c .before .before .if1 .left in
+    let f : l .found ≡ true = at-reaches .before .loop-test .taken in
+    let r : leb (a .quorum) (tableOf (a .rows .now) (stepsIn v)) ≡ false = sym (at-reaches .reaches .ensures) ∙ c .before .before .if1 .left in
     let low : tableOf (a .rows .now) (stepsIn v) < a .quorum = leb-false _ _ r in
     let e = climb-skips (tableOf (a .rows .now)) (s .pre .2) (a .quorum) (a .limit) (stepsIn v) (λ h. omega arith) in (
       rw f at (l .inv .0) ∙ e ∙ ap (λ (ds : List (List ℕ)). fromThere ds (listOf (tableOf (a .rows .now)) (a .quorum) (a .limit))) (sym (c .before .climb .ensures .0)),
