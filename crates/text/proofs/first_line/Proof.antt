@@ -7,6 +7,10 @@ use native.Mathlib.Omega.{arith}
 use Rattle.text.proofs.first_line.Statement.{statement}
 use Rattle.text.proofs.first_line.Tie as tie
 
+-- the start, from behind the first number
+abbrev start : tie.After-spaced → tie.Start
+start c = c .before .before .before .before
+
 empty-requires : tie.Need-empty-requires
 empty-requires c κs = search needs
 
@@ -23,24 +27,24 @@ slice-aggregate-name-2 : tie.Need-slice-aggregate-name-2
 slice-aggregate-name-2 c = search needs
 
 name-requires-2 : tie.Need-name-requires-2
-name-requires-2 c κs = omega (arith, number-room (c .before .before .before .before .before .args .k) (search needs))
+name-requires-2 c κs = omega (arith, number-room (start (c .before) .args .k) (search needs))
 
 spaced-requires-2 : tie.Need-spaced-requires-2
 spaced-requires-2 c κs =
-    let a = c .before .before .before .before .before .before .args in
+    let a = start (c .before .before) .args in
     omega (arith, number-room (a .k) (search needs), number-room (a .rows) (search needs))
 
 put-requires : tie.Need-put-requires
 put-requires c κs =
-    let a = c .before .before .before .before .before .before .before .args in
+    let a = start (c .before .before .before) .args in
     omega (arith, number-room (a .k) (search needs), number-room (a .rows) (search needs))
 
 returns : tie.Need-returns
 unfolding firstLine
 returns c =
-    let d = c .before .before .before .before in
-    let a = d .before .before .before .before .args in (
-      c .put .ensures .text _ (c .before .spaced2 .ensures .text _ (c .before .before .name2 .ensures .text _ (d .spaced .ensures .text _ (d .before .name .ensures .text _ (d .before .before .before .empty .ensures .1))))),
+    let at-number = c .before .before .before .before in
+    let a = start at-number .args in (
+      c .put .ensures .text _ (c .before .spaced2 .ensures .text _ (c .before .before .name2 .ensures .text _ (at-number .spaced .ensures .text _ (at-number .before .name .ensures .text _ (at-number .before .before .before .empty .ensures .1))))),
       omega (arith, number-room (a .k) (search needs), number-room (a .rows) (search needs)),
     )
 

@@ -55,8 +55,9 @@ cast-spaced c = omega (arith, c .shared-slice-known2 .given (c .before .before .
 
 spaced-requires-2 : tie.Need-spaced-requires-2 Inv-loop μ-loop
 spaced-requires-2 c κs =
-    let i = c .before .before .loop .i in
-    let w = c .before .before .before .before .before .before .before .before .args .word .now in
+    let at-loop = c .before .before in
+    let i = at-loop .loop .i in
+    let w = at-loop .before .before .before .before .before .before .args .word .now in
     let b : getD w i 0 < 256 = omega (arith, c .shared-slice-known2 .given i) in
     omega (arith, byte-room (getD w i 0) b)
 
@@ -68,9 +69,10 @@ loop-less c = search needs
 
 loop-again : tie.Need-loop-again Inv-loop μ-loop
 loop-again c =
-    let l = c .before .before .before .loop in
+    let at-loop = c .before .before .before in
+    let l = at-loop .loop in
     let i = l .i in
-    let a = c .before .before .before .before .before .before .before .before .before .args in
+    let a = at-loop .before .before .before .before .before .before .args in
     let w = a .word .now in
     let b : getD w i 0 < 256 = omega (arith, c .before .shared-slice-known2 .given i) in (
       omega arith,
@@ -84,8 +86,9 @@ put-requires c κs = search needs
 returns-2 : tie.Need-returns-2 Inv-loop μ-loop
 unfolding wordLine
 returns-2 c =
-    let l = c .before .before .loop in
-    let a = c .before .before .before .before .before .before .before .before .args in
+    let at-loop = c .before .before in
+    let l = at-loop .loop in
+    let a = at-loop .before .before .before .before .before .before .args in
     let w = a .word .now in
     let e : length w ≤ 15 = omega arith in (
       rw (le-leb (length w) 15 e) (rw (take-all (l .i) w (omega arith)) at (c .put .ensures .text _ (l .inv .2))),
