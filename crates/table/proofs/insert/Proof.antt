@@ -31,9 +31,11 @@ same-length c = search needs
 
 returns : tie.Need-returns
 returns c =
-    let a = c .before .before .before .before .before .before .before .before .args in
-    let r = c .before .before .before .before .before .rank in
-    stays (a .n) (r .result) (a .t .now) (a .key) (c .before .before .before .before .if1 .taken) (c .before .before .key-at .ensures) (c .before .compare .ensures) (r .ensures) (c .if2 .taken)
+    let at-within = c .before .before .before .before in
+    let at-rank = at-within .before in
+    let a = at-rank .before .before .before .args in
+    let r = at-rank .rank in
+    stays (a .n) (r .result) (a .t .now) (a .key) (at-within .if1 .taken) (c .before .before .key-at .ensures) (c .before .compare .ensures) (r .ensures) (c .if2 .taken)
 
 open-at-requires : tie.Need-open-at-requires
 open-at-requires c κs =
@@ -49,12 +51,15 @@ same-length-2 c = search needs
 
 returns-2 : tie.Need-returns-2
 returns-2 c =
-    let a = c .before .before .before .before .before .before .before .before .args in
-    let r = c .before .before .before .before .before .rank in
+    let at-open = c .before .before in
+    let at-new = at-open .before .before in
+    let at-rank = at-new .before in
+    let a = at-rank .before .before .before .args in
+    let r = at-rank .rank in
     let new : r .result < a .n → getD (records 16 (a .n) (a .t .now)) (r .result) [] ≡ a .key → ⊥ =
     ⊎-elim (λ w h. other (a .n) (r .result) (a .t .now) (a .key) h (w .2 .ensures) (w .3 .ensures) (w .4 .left)) (λ w h k. omega arith)
-    (c .before .before .before .before .if1 .came) in
-    goes-in (a .n) (r .result) (a .t .now) (c .before .before .open-at .last .0) (a .key) (r .ensures) new (c .before .before .open-at .ensures)
+    (at-new .if1 .came) in
+    goes-in (a .n) (r .result) (a .t .now) (at-open .open-at .last .0) (a .key) (r .ensures) new (at-open .open-at .ensures)
 
 pub insert-spec : {M : Type 1} → statement M
 insert-spec =

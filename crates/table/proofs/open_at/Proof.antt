@@ -30,10 +30,12 @@ same-length c = search needs
 
 returns : tie.Need-returns
 returns c =
-    let s = c .before .before .before .before .before .before .before .before .before in
+    let at-put = c .before .before in
+    let at-shift = at-put .before .before .before .before in
+    let s = at-shift .before .before .before in
     let a = s .args in
     let h : length (a .key) ≡ 16 = s .good .1 .1 .1 .0 .1 .0 .1 in
-    ap (λ (x : List ℕ). records 16 (a .n + 1) x) (c .before .before .put .ensures ∙ ap (λ (x : List ℕ). paste x (16 * a .p) (a .key) 16) (c .before .before .before .before .before .before .shift .ensures))
+    ap (λ (x : List ℕ). records 16 (a .n + 1) x) (at-put .put .ensures ∙ ap (λ (x : List ℕ). paste x (16 * a .p) (a .key) 16) (at-shift .shift .ensures))
     ∙ opened-keys (a .n) (a .p) (a .t .now) (a .key) (s .pre .2) (s .pre .0) h
 
 pub open-at-spec : {M : Type 1} → statement M
