@@ -48,9 +48,11 @@ loop-less c = search needs
 
 loop-again : tie.Need-loop-again Inv-loop μ-loop Inv-rows μ-rows
 loop-again c =
-    let l = c .before .before .before .before .loop in
-    let r = c .before .before .before .before .before .before .rows in
-    let a = c .before .before .before .before .before .before .before .args in
+    let at-byte = c .before .before .before .before in
+    let at-row = at-byte .before .before in
+    let l = at-byte .loop in
+    let r = at-row .rows in
+    let a = at-row .before .args in
     let k = 64 * r .row + l .byte in
     (search needs, (omega arith, subst (Alike (a .rows .now) (a .picture .now)) (omega arith) (alike-on (a .rows .now) (a .picture .now) k (omega arith) (omega arith) (c .if1 .left) (l .inv .1 .1))))
 
@@ -74,9 +76,11 @@ returns c =
 
 returns-2 : tie.Need-returns-2 Inv-loop μ-loop Inv-rows μ-rows
 returns-2 c =
-    let l = c .before .before .before .before .loop in
-    let r = c .before .before .before .before .before .before .rows in
-    let a = c .before .before .before .before .before .before .before .args in
+    let at-byte = c .before .before .before .before in
+    let at-row = at-byte .before .before in
+    let l = at-byte .loop in
+    let r = at-row .rows in
+    let a = at-row .before .args in
     (alike-stop (a .rows .now) (a .picture .now) (64 * r .row + l .byte) (omega arith) (omega arith) (c .if1 .taken) (l .inv .1 .1), omega arith)
 
 pub first-difference-spec : {M : Type 1} → statement M
