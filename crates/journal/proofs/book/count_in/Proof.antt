@@ -20,13 +20,18 @@ Inv-loop journals word k n₀ i₀ n i = (i ≤ length (journalsOf journals)) ×
 abbrev μ-loop : tie.MeasureT-loop
 μ-loop journals word k n₀ i₀ n i = k - i
 
+-- the start, from the loop's test
+abbrev start : tie.At-loop Inv-loop μ-loop → tie.Start Inv-loop μ-loop
+start c = c .before .before .before .before
+
 -- what the calls say of journal i
 told : {v : Bool} (c : tie.After-is-in Inv-loop μ-loop) → c .is-in .result ≡ v
-    → isIn (c .before .before .before .before .before .before .before .args .word .now)
-    (getD (journalsOf (c .before .before .before .before .before .before .before .args .journals .now)) (c .before .before .before .loop .i) []) ≡ v
+    → let at-loop = c .before .before .before in
+    let a = start at-loop .args in
+    isIn (a .word .now) (getD (journalsOf (a .journals .now)) (at-loop .loop .i) []) ≡ v
 told c e =
-    ap (isIn (c .before .before .before .before .before .before .before .args .word .now)) (sym (c .before .journal-at .ensures))
-    ∙ sym (c .is-in .ensures) ∙ e
+    let a = start (c .before .before .before) .args in
+    ap (isIn (a .word .now)) (sym (c .before .journal-at .ensures)) ∙ sym (c .is-in .ensures) ∙ e
 
 open-count-requires : tie.Need-open-count-requires Inv-loop μ-loop
 open-count-requires c κs = form-size (c .before .before .args .journals .now) (c .before .before .pre)
@@ -42,12 +47,12 @@ is-in-requires c κs = search needs
 
 add-n : tie.Need-add-n Inv-loop μ-loop
 add-n c =
-    let s = c .before .before .before .before .before .before .before .before in
+    let s = start (c .before .before .before .before) in
     omega (arith, form-few (s .args .journals .now) (s .pre))
 
 add-i : tie.Need-add-i Inv-loop μ-loop
 add-i c =
-    let s = c .before .before .before .before .before .before .before .before in
+    let s = start (c .before .before .before .before) in
     omega (arith, form-few (s .args .journals .now) (s .pre))
 
 loop-less : tie.Need-loop-less Inv-loop μ-loop
@@ -55,15 +60,16 @@ loop-less c = search needs
 
 loop-again : tie.Need-loop-again Inv-loop μ-loop
 loop-again c =
-    let js = journalsOf (c .before .before .before .before .before .before .before .before .args .journals .now) in
-    let w = c .before .before .before .before .before .before .before .before .args .word .now in
-    let i = c .before .before .before .before .loop .i in
+    let at-loop = c .before .before .before .before in
+    let js = journalsOf (start at-loop .args .journals .now) in
+    let w = start at-loop .args .word .now in
+    let i = at-loop .loop .i in
     ⊎-elim (λ v. omega (arith, count-in js w i (omega arith) (told (c .before) (v .0 .taken))))
     (λ v. omega (arith, count-out js w i (omega arith) (told (c .before) (v .0 .left)))) (c .if1 .came)
 
 returns : tie.Need-returns Inv-loop μ-loop
 returns c =
-    let a = c .before .before .before .before .before .args in
+    let a = start (c .before) .args in
     omega (arith, count-end (journalsOf (a .journals .now)) (a .word .now) (c .before .loop .i) (omega arith))
 
 pub count-in-spec : {M : Type 1} → statement M

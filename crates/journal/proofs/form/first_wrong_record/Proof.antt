@@ -69,8 +69,9 @@ loop-less c = search needs
 
 loop-again : tie.Need-loop-again Inv-loop μ-loop
 loop-again c =
-    let b = c .before .before .before .before .before .before .before .args .journals .now in
-    let l = c .before .before .before .before .before .loop in
+    let at-loop = c .before .before .before .before .before in
+    let b = at-loop .before .before .args .journals .now in
+    let l = at-loop .loop in
     omega (arith, wrong-next 16 b (l .i) (omega arith) (l .open-before) (told (c .before .before) (c .before .if1 .left)))
 
 returns-2 : tie.Need-returns-2 Inv-loop μ-loop

@@ -57,8 +57,10 @@ all-below-requires-2 c κs = search needs
 
 returns-2 : tie.Need-returns-2
 returns-2 c =
-    let b = c .before .before .before .before .before .before .before .before .args .b .now in
-    rw (le-leb _ _ (c .before .before .before .before .before .if1 .left), told (c .before .before .before) (c .before .before .if2 .taken))
+    let at-steps = c .before .before .before in
+    let at-short = at-steps .before .before in
+    let b = at-short .before .before .before .args .b .now in
+    rw (le-leb _ _ (at-short .if1 .left), told at-steps (c .before .before .if2 .taken))
     (c .all-below2 .ensures ∙ ap (allBelow 1) (part-rest (1 + getD b 0 0) b))
 
 returns-3 : tie.Need-returns-3

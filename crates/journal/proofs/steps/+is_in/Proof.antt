@@ -115,7 +115,8 @@ is-in-is-in-requires : (t : ℕ) → is-in-lts.Need-is-in-requires (
   is-in.Post,
 ) (is-in-at t) is-in.Post
 is-in-is-in-requires t c κs =
-    let s = c .before .before .before .before .before .before .before .before in
+    let at-find = c .before .before .before in
+    let s = at-find .before .before .before .before .before in
     let w = s .args .word .now in
     (omega (arith, ap length (part-rest 1 w), length-drop 1 w, s .pre .0), tt)
 
@@ -126,12 +127,15 @@ is-in-returns-2 : (t : ℕ) → is-in-lts.Need-returns-2 (
   is-in.Post,
 ) (is-in-at t) is-in.Post
 is-in-returns-2 t c =
-    let s = c .before .before .before .before .before .before .before .before .before in
+    let at-found = c .before .before .before in
+    let at-find = at-found .before in
+    let at-some = at-find .before .before in
+    let s = at-some .before .before .before in
     let w = s .args .word .now in
     let js = s .args .journal .now in
-    let k = c .before .before .before .before .find .result in
+    let k = at-find .find .result in
     c .is-in .ensures ∙ ap (λ (x : List ℕ). isIn x (take (length js - (k + 1)) (drop (k + 1) js))) (part-rest 1 w) ∙ ap (λ (x : List ℕ). isIn (drop 1 w) x) (part-rest (k + 1) js)
-    ∙ sym (in-found w js k (c .before .before .before .before .before .before .if1 .left) (c .before .before .before .before .find .ensures) (c .before .before .before .if2 .taken))
+    ∙ sym (in-found w js k (at-some .if1 .left) (at-find .find .ensures) (at-found .if2 .taken))
 
 is-in-returns-3 : (t : ℕ) → is-in-lts.Need-returns-3 (
   find-reads.Asked,
