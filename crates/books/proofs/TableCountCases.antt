@@ -10,7 +10,8 @@ use Rattle.records.specs.Sizes.{rowBookSize}
 use Rattle.records.specs.Bytes.{allBelow}
 use Rattle.records.specs.RowBook.{countAt}
 use Rattle.books.specs.Numbers.{done, wrongSize, wrongStep, damaged}
-use Rattle.walk.specs.Walk.{at-row, no-row, damage, walk}
+use Rattle.walk.specs.Walk.{walk}
+use Rattle.walk.specs.declared.Walked.the-variants.{Row, Nowhere, Damage}
 use Rattle.books.specs.TableCount.{counted, tableCountCall}
 use Rattle.books.specs.declared.Counted.{Counted}
 
@@ -30,14 +31,14 @@ module _ (b w : List ℕ) where
     count-step f = rw (eq-eqb (length b) rowBookSize size, f)
 
     module _ (codes : allBelow stepCodes w ≡ true) where
-      pub count-row : (r : ℕ) → walk b w ≡ at-row r → tableCountCall b w ≡ counted done (countAt b r)
+      pub count-row : (r : ℕ) → walk b w ≡ Row r → tableCountCall b w ≡ counted done (countAt b r)
       unfolding tableCountCall
       count-row r e = rw (eq-eqb (length b) rowBookSize size, codes, e)
 
-      pub count-none : walk b w ≡ no-row → tableCountCall b w ≡ counted done 0
+      pub count-none : walk b w ≡ Nowhere → tableCountCall b w ≡ counted done 0
       unfolding tableCountCall
       count-none e = rw (eq-eqb (length b) rowBookSize size, codes, e)
 
-      pub count-damage : walk b w ≡ damage → tableCountCall b w ≡ counted damaged 0
+      pub count-damage : walk b w ≡ Damage → tableCountCall b w ≡ counted damaged 0
       unfolding tableCountCall
       count-damage e = rw (eq-eqb (length b) rowBookSize size, codes, e)

@@ -8,7 +8,9 @@ use mathlib.Core.List.{List, [], _∷_, _++_, append-nil, List·Memᴰ}
 use lib.ListN.{length}
 use lib.Seq.{append-snoc}
 use borrow.Author.Tests.{eq-eqb, ne-eqb, lt-leb, le-ltb}
-use Rattle.walk.specs.Walk.{Walk, at-row, no-row, along, walkFrom, walk}
+use Rattle.walk.specs.Walk.{along, walkFrom, walk}
+use Rattle.walk.specs.declared.Walked.{Walked}
+use Rattle.walk.specs.declared.Walked.the-variants.{Row, Nowhere}
 use Rattle.books.specs.TableCount.{counted, tableCountCall}
 use Rattle.records.specs.RowBook.{rowBook, countAt}
 use Rattle.words.specs.Picture.{rowOf, picture}
@@ -23,18 +25,18 @@ use Rattle.words.proofs.Rows.{row-is, step-row, arc-after, start-mem, start-zer
 use Rattle.words.proofs.Test.{test}
 
 -- an arc is taken that rises, is a row's number, and ends at a count of 1 to 16
-along-on : (b : List ℕ) (r t : ℕ) (rest : Walk) → r < t → t < 1000 → 1 ≤ countAt b t → countAt b t ≤ 16 → along b r t rest ≡ rest
+along-on : (b : List ℕ) (r t : ℕ) (rest : Walked) → r < t → t < 1000 → 1 ≤ countAt b t → countAt b t ≤ 16 → along b r t rest ≡ rest
 unfolding along
 along-on b r t rest h k l m =
     rw (ne-eqb t 0 (omega arith), lt-leb t r h, lt-leb 1000 t k, ne-eqb (countAt b t) 0 (omega arith), le-ltb 16 (countAt b t) m)
 
 -- where a walk to the state a ends: at its row, if it is live
-abbrev ending : List (List ℕ) → List ℕ → Walk
-ending js a = cond (live a) (at-row (rowOf a 0 (picture js))) no-row
+abbrev ending : List (List ℕ) → List ℕ → Walked
+ending js a = cond (live a) (Row (rowOf a 0 (picture js))) Nowhere
 
 module _ (js : List (List ℕ)) (h : Short js) (few : length js ≤ 16) (fits : length (picture js) ≤ 1000) where
   -- the arc of a row to a live state is taken
-  taken : (a : List ℕ) → List·Memᴰ a (picture js) → (s : ℕ) → s < 16 → live (step js a s) ≡ true → (rest : Walk)
+  taken : (a : List ℕ) → List·Memᴰ a (picture js) → (s : ℕ) → s < 16 → live (step js a s) ≡ true → (rest : Walked)
       → along (rowBook js) (rowOf a 0 (picture js)) (rowOf (step js a s) 0 (picture js)) rest ≡ rest
   taken a m s b t rest =
       let i = step-row js h a m s b t in
@@ -74,11 +76,11 @@ module _ (js : List (List ℕ)) (are : AreJournals js) (fits : length (picture j
   brief = short js (are .each)
 
   -- the walk along a word that is live ends at the row of its state
-  pub walk-ends : live (state js w) ≡ true → walk (rowBook js) w ≡ at-row (rowOf (state js w) 0 (picture js))
+  pub walk-ends : live (state js w) ≡ true → walk (rowBook js) w ≡ Row (rowOf (state js w) 0 (picture js))
   walk-ends t = rw t at (ends js brief (are .few) fits w k)
 
   -- the walk along any other word ends in no row
-  pub walk-stops : live (state js w) ≡ false → walk (rowBook js) w ≡ no-row
+  pub walk-stops : live (state js w) ≡ false → walk (rowBook js) w ≡ Nowhere
   walk-stops f = rw f at (ends js brief (are .few) fits w k)
 
   -- on the book of the journals the table count is the word's count

@@ -9,19 +9,21 @@ use Rattle.records.specs.Sizes.{rowBookSize}
 use Rattle.books.specs.Numbers.{Refusal, first, wrongSize, damaged, wrongStep, unless}
 use Rattle.records.specs.Bytes.{allBelow}
 use Rattle.records.specs.RowBook.{countAt}
-use Rattle.walk.specs.Walk.{Walk, at-row, no-row, damage, walk}
+use Rattle.walk.specs.Walk.{walk}
+use Rattle.walk.specs.declared.Walked.{Walked}
+use Rattle.walk.specs.declared.Walked.the-variants.{Row, Nowhere, Damage}
 use Rattle.books.specs.declared.Counted.{Counted}
 
-abbrev pub isDamage : Walk → Bool
-isDamage (at-row r) = false
-isDamage no-row = false
-isDamage damage = true
+abbrev pub isDamage : Walked → Bool
+isDamage (Row r) = false
+isDamage Nowhere = false
+isDamage Damage = true
 
 -- The answer is the last row's count byte.
-abbrev pub countOf : List ℕ → Walk → ℕ
-countOf b (at-row r) = countAt b r
-countOf b no-row = 0
-countOf b damage = 0
+abbrev pub countOf : List ℕ → Walked → ℕ
+countOf b (Row r) = countAt b r
+countOf b Nowhere = 0
+countOf b Damage = 0
 
 -- Table count: 1, 3, 2. All steps are tested first.
 abbrev pub tableCountRefusals : List ℕ → List ℕ → List Refusal

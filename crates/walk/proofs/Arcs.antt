@@ -13,7 +13,9 @@ use Rattle.words.specs.Limits.{mostJournals}
 use Rattle.words.proofs.Test.{test}
 use Rattle.records.specs.Sizes.{mostRows}
 use Rattle.records.specs.RowBook.{countAt, arcAt}
-use Rattle.walk.specs.Walk.{Walk, at-row, no-row, damage, badArc, along, walkFrom, walk}
+use Rattle.walk.specs.Walk.{badArc, along, walkFrom, walk}
+use Rattle.walk.specs.declared.Walked.{Walked}
+use Rattle.walk.specs.declared.Walked.the-variants.{Row, Nowhere, Damage}
 use Rattle.walk.proofs.Steps.{step-rest}
 
 -- when an arc is bad
@@ -36,12 +38,12 @@ module _ (b : List ℕ) (r t : ℕ) where
       (λ n. test (leb mostRows t) (λ y. absurd (false≢true (sym f ∙ rw (n, y)))) (λ m. leb-false mostRows t m))
 
 -- how an arc is taken
-module _ (b : List ℕ) (r t : ℕ) (rest : Walk) where
-  pub along-zero : t ≡ 0 → along b r t rest ≡ no-row
+module _ (b : List ℕ) (r t : ℕ) (rest : Walked) where
+  pub along-zero : t ≡ 0 → along b r t rest ≡ Nowhere
   unfolding along
   along-zero e = rw e
 
-  pub along-bad : (t ≡ 0 → ⊥) → badArc b r t ≡ true → along b r t rest ≡ damage
+  pub along-bad : (t ≡ 0 → ⊥) → badArc b r t ≡ true → along b r t rest ≡ Damage
   unfolding along
   along-bad n y = rw (ne-eqb t 0 n, y)
 
@@ -55,17 +57,17 @@ pub from-on : (b w : List ℕ) (q r i t : ℕ) → i < length w → walkFrom b q
 unfolding walkFrom
 from-on b w q r i t h e g = e ∙ rw (step-rest w i h, g)
 
-pub from-end : (b w : List ℕ) (r i : ℕ) → length w ≤ i → walkFrom b r (drop i w) ≡ at-row r
+pub from-end : (b w : List ℕ) (r i : ℕ) → length w ≤ i → walkFrom b r (drop i w) ≡ Row r
 unfolding walkFrom
 from-end b w r i h = rw (drop-of-length-le w h)
 
 -- how a walk starts
 module _ (b w : List ℕ) where
-  pub start-many : mostJournals < countAt b 0 → walk b w ≡ damage
+  pub start-many : mostJournals < countAt b 0 → walk b w ≡ Damage
   unfolding walk
   start-many h = rw (lt-ltb mostJournals (countAt b 0) h)
 
-  pub start-none : countAt b 0 ≡ 0 → walk b w ≡ no-row
+  pub start-none : countAt b 0 ≡ 0 → walk b w ≡ Nowhere
   unfolding walk
   start-none e = rw e
 
@@ -73,25 +75,25 @@ module _ (b w : List ℕ) where
   unfolding walk
   start-row h n = rw (le-ltb mostJournals (countAt b 0) h, ne-eqb (countAt b 0) 0 n)
 
-not-none : {q : ℕ} → no-row ≡ at-row q → ⊥
+not-none : {q : ℕ} → Nowhere ≡ Row q → ⊥
 not-none z = let o : _≡_ {A = ℕ} 0 1 = cc in omega arith
 
-not-damage : {q : ℕ} → damage ≡ at-row q → ⊥
+not-damage : {q : ℕ} → Damage ≡ Row q → ⊥
 not-damage z = let o : _≡_ {A = ℕ} 0 1 = cc in omega arith
 
 -- a walk that ends in a row ends in one of the book
-along-row : (b : List ℕ) (r t q : ℕ) (rest : Walk) → along b r t rest ≡ at-row q → (t < mostRows) × (rest ≡ at-row q)
+along-row : (b : List ℕ) (r t q : ℕ) (rest : Walked) → along b r t rest ≡ Row q → (t < mostRows) × (rest ≡ Row q)
 unfolding along
 along-row b r t q rest e =
     test (eqb t 0) (λ y. absurd (not-none (rw y at e)))
     (λ n. test (badArc b r t) (λ y. absurd (not-damage (rw (n, y) at e))) (λ m. (good-row b r t m, rw (n, m) at e)))
 
-from-row : (b : List ℕ) (r : ℕ) (w : List ℕ) (q : ℕ) → r < mostRows → walkFrom b r w ≡ at-row q → q < mostRows
+from-row : (b : List ℕ) (r : ℕ) (w : List ℕ) (q : ℕ) → r < mostRows → walkFrom b r w ≡ Row q → q < mostRows
 unfolding walkFrom
 from-row b r [] q h e = let f : r ≡ q = cc in omega arith
 from-row b r (s ∷ w) q h e = let n = along-row b r (arcAt b r s) q _ e in from-row b (arcAt b r s) w q (n .0) (n .1)
 
-pub walk-row : (b w : List ℕ) (q : ℕ) → walk b w ≡ at-row q → q < mostRows
+pub walk-row : (b w : List ℕ) (q : ℕ) → walk b w ≡ Row q → q < mostRows
 unfolding walk
 walk-row b w q e =
     test (ltb mostJournals (countAt b 0)) (λ y. absurd (not-damage (rw y at e)))

@@ -6,26 +6,22 @@ use lib.Dec.{eqb, ltb, leb}
 use Rattle.words.specs.Limits.{mostJournals}
 use Rattle.records.specs.Sizes.{mostRows}
 use Rattle.records.specs.RowBook.{countAt, arcAt}
-
--- a walk ends in a row, in no row, or in damage
-pub data Walk : Type 0 where
-  at-row : ℕ → Walk
-  no-row : Walk
-  damage : Walk
+use Rattle.walk.specs.declared.Walked.{Walked}
+use Rattle.walk.specs.declared.Walked.the-variants.{Row, Nowhere, Damage}
 
 -- An arc not above the present row, or of 1,000 or more, is 2; so is a count byte at the arc's end that is 0 or above 16.
 abbrev pub badArc : List ℕ → ℕ → ℕ → Bool
 badArc b r t = leb t r || (leb mostRows t || (eqb (countAt b t) 0 || ltb mostJournals (countAt b t)))
 
 -- An arc t of row r is taken to what follows from there: 0 gives the answer 0 at once.
-unfoldable pub along : List ℕ → ℕ → ℕ → Walk → Walk
-along b r t rest = cond (eqb t 0) no-row (cond (badArc b r t) damage rest)
+unfoldable pub along : List ℕ → ℕ → ℕ → Walked → Walked
+along b r t rest = cond (eqb t 0) Nowhere (cond (badArc b r t) Damage rest)
 
 -- For each step the arc is read.
-unfoldable pub walkFrom : List ℕ → ℕ → List ℕ → Walk
-walkFrom b r [] = at-row r
+unfoldable pub walkFrom : List ℕ → ℕ → List ℕ → Walked
+walkFrom b r [] = Row r
 walkFrom b r (s ∷ w) = along b r (arcAt b r s) (walkFrom b (arcAt b r s) w)
 
 -- It starts at row 0; a count byte there above 16 is 2, a count byte of 0 gives the answer 0.
-unfoldable pub walk : List ℕ → List ℕ → Walk
-walk b w = cond (ltb mostJournals (countAt b 0)) damage (cond (eqb (countAt b 0) 0) no-row (walkFrom b 0 w))
+unfoldable pub walk : List ℕ → List ℕ → Walked
+walk b w = cond (ltb mostJournals (countAt b 0)) Damage (cond (eqb (countAt b 0) 0) Nowhere (walkFrom b 0 w))

@@ -8,7 +8,6 @@ ghost use Rattle.words.specs.Limits.{stepCodes};
 ghost use Rattle.records.specs.Sizes.{rowBookSize, mostRows};
 ghost use Rattle.records.specs.Bytes.{allBelow};
 ghost use Rattle.walk.specs.Walk.{badArc, walkFrom, walk};
-ghost use Rattle.walk.specs.Walked.{ended};
 use records::ROWS;
 use row::arc_at;
 use row::count_at;
@@ -46,7 +45,7 @@ fn bad_arc(rows: &[u8], r: usize, t: usize) -> bool
 // Where the walk from a row under a word of steps ends.
 fn walk_from(rows: &[u8], row: usize, word: &[u8]) -> Walked
     requires { ⌜ (length (now rows) ≡ rowBookSize) × (row < mostRows) × (allBelow stepCodes (now word) ≡ true) ⌝ }
-    ensures { λ y. ⌜ ended y ≡ walkFrom (now (rows .entry)) row (now (word .entry)) ⌝ }
+    ensures { λ y. ⌜ y ≡ walkFrom (now (rows .entry)) row (now (word .entry)) ⌝ }
 {
     let mut r = row;
     let mut i = 0;
@@ -67,7 +66,7 @@ fn walk_from(rows: &[u8], row: usize, word: &[u8]) -> Walked
 // Where the walk of a word of steps ends: it starts at row 0, if that row's count is 1 to 16.
 pub fn walk_to(rows: &[u8], word: &[u8]) -> Walked
     requires { ⌜ (length (now rows) ≡ rowBookSize) × (allBelow stepCodes (now word) ≡ true) ⌝ }
-    ensures { λ y. ⌜ ended y ≡ walk (now (rows .entry)) (now (word .entry)) ⌝ }
+    ensures { λ y. ⌜ y ≡ walk (now (rows .entry)) (now (word .entry)) ⌝ }
 {
     let count = wide(count_at(rows, 0));
     if JOURNALS < count {

@@ -4,7 +4,6 @@ use native.Mathlib.Omega.{arith}
 use borrow.Author.Needs.{needs}
 use mathlib.Core.Path.{sym, ap, _∙_}
 use Rattle.books.specs.Numbers.{done}
-use Rattle.walk.specs.Walked.{ended}
 use Rattle.books.specs.TableCount.{counted}
 use Rattle.books.proofs.Said.{said-no, said-yes}
 use Rattle.walk.proofs.Arcs.{walk-row}
@@ -34,7 +33,7 @@ enum-known-r : tie.Need-enum-known-r
 enum-known-r c = search needs
 
 count-at-requires : tie.Need-count-at-requires
-count-at-requires c κs = (search needs, omega (arith, walk-row _ _ _ (sym (c .before .before .before .walk-to .ensures) ∙ ap ended (c .before .r .given .1))))
+count-at-requires c κs = (search needs, omega (arith, walk-row _ _ _ (sym (c .before .before .before .walk-to .ensures) ∙ c .before .r .given .1)))
 
 done-requires : tie.Need-done-requires
 done-requires c κs = search needs
@@ -53,19 +52,19 @@ refused-requires-3 c κs = search needs
 
 returns-3 : tie.Need-returns-3
 returns-3 c =
-    let end = sym (c .before .before .before .before .before .walk-to .ensures) ∙ ap ended (c .before .before .before .r .given .1) in
+    let end = sym (c .before .before .before .before .before .walk-to .ensures) ∙ c .before .before .before .r .given .1 in
     let law = count-row _ _ (c .before .before .before .before .before .before .before .before .if1 .left) (said-yes (c .before .before .before .before .before .before .before .all-below .ensures) (c .before .before .before .before .before .before .if2 .left)) _ end in
     c .done .ensures ∙ ap (counted done) (c .before .count-at .ensures) ∙ sym law
 
 returns-4 : tie.Need-returns-4
 returns-4 c =
-    let end = sym (c .before .before .before .walk-to .ensures) ∙ ap ended (c .before .enum-told .given .1) in
+    let end = sym (c .before .before .before .walk-to .ensures) ∙ c .before .enum-told .given .1 in
     let law = count-none _ _ (c .before .before .before .before .before .before .if1 .left) (said-yes (c .before .before .before .before .before .all-below .ensures) (c .before .before .before .before .if2 .left)) end in
     c .done2 .ensures ∙ sym law
 
 returns-5 : tie.Need-returns-5
 returns-5 c =
-    let end = sym (c .before .before .before .walk-to .ensures) ∙ ap ended (c .before .enum-told2 .given .1) in
+    let end = sym (c .before .before .before .walk-to .ensures) ∙ c .before .enum-told2 .given .1 in
     let law = count-damage _ _ (c .before .before .before .before .before .before .if1 .left) (said-yes (c .before .before .before .before .before .all-below .ensures) (c .before .before .before .before .if2 .left)) end in
     c .refused3 .ensures ∙ sym law
 

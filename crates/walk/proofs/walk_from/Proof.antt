@@ -11,10 +11,6 @@ use Rattle.walk.proofs.Steps.{step-code}
 use Rattle.walk.proofs.Arcs.{from-on, from-end, along-zero, along-bad, along-good, good-row}
 use Rattle.walk.proofs.walk_from.Statement.{statement}
 use Rattle.walk.proofs.walk_from.Tie as tie
-use Rattle.walk.proofs.walk_from.Reads as reads
-use Rattle.walk.proofs.walk_from.Lts as lts
-use Rattle.row.proofs.arc_at.Reads as arc-at-reads
-use Rattle.walk.proofs.bad_arc.Reads as bad-arc-reads
 
 abbrev Inv-loop : tie.InvT-loop
 Inv-loop rows row word r₀ i₀ r i = (i ≤ length word) × (r < mostRows) × (walkFrom rows row word ≡ walkFrom rows r (drop i word))
@@ -22,21 +18,20 @@ Inv-loop rows row word r₀ i₀ r i = (i ≤ length word) × (r < mostRows) × 
 abbrev μ-loop : tie.MeasureT-loop
 μ-loop rows row word r₀ i₀ r i = length word - i
 
--- the place where the arc is read
-abbrev Read : Type 0
-Read =
-    lts.After-arc-at (arc-at-reads.Asked, arc-at-reads.Learnt, bad-arc-reads.Asked, bad-arc-reads.Learnt) reads.Pre reads.Post Inv-loop μ-loop
+-- the start, from where the arc is read
+abbrev start : tie.After-arc-at Inv-loop μ-loop → tie.Start Inv-loop μ-loop
+start c = c .before .before .before .before .before .before
 
 -- the invariant's equation there
-arc-read : (a : Read)
-    → let asked = a .before .before .before .before .before .before .args in
-    let l = a .before .before .before .loop in
-    let t = a .arc-at .result in
+arc-read : (c : tie.After-arc-at Inv-loop μ-loop)
+    → let asked = start c .args in
+    let l = c .before .before .before .loop in
+    let t = c .arc-at .result in
     walkFrom (asked .rows .now) (asked .row) (asked .word .now) ≡ along (asked .rows .now) (l .r) t (walkFrom (asked .rows .now) t (drop (l .i + 1) (asked .word .now)))
-arc-read a =
-    let asked = a .before .before .before .before .before .before .args in
-    let l = a .before .before .before .loop in
-    from-on (asked .rows .now) (asked .word .now) (asked .row) (l .r) (l .i) (a .arc-at .result) (search needs) (l .inv .2) (a .arc-at .ensures)
+arc-read c =
+    let asked = start c .args in
+    let l = c .before .before .before .loop in
+    from-on (asked .rows .now) (asked .word .now) (asked .row) (l .r) (l .i) (c .arc-at .result) (search needs) (l .inv .2) (c .arc-at .ensures)
 
 loop-holds : tie.Need-loop-holds Inv-loop μ-loop
 loop-holds c = search needs
@@ -69,8 +64,9 @@ loop-less c = search needs
 
 loop-again : tie.Need-loop-again Inv-loop μ-loop
 loop-again c =
+    let at-arc = c .before .before .before in
     let good = sym (c .before .bad-arc .ensures) ∙ c .if2 .left in
-    (search needs, good-row (c .before .before .before .before .before .before .before .before .before .args .rows .now) _ _ good, arc-read (c .before .before .before) ∙ along-good _ _ _ _ (c .before .before .if1 .left) good)
+    (search needs, good-row (start at-arc .args .rows .now) _ _ good, arc-read at-arc ∙ along-good _ _ _ _ (c .before .before .if1 .left) good)
 
 returns-3 : tie.Need-returns-3 Inv-loop μ-loop
 returns-3 c =
