@@ -3,11 +3,10 @@ pub mod Parts
 pub mod Numbers
 pub mod FromOn
 pub mod Climb
-pub mod Moves
+pub mod WordMoves
 pub mod RecordBytes
-pub mod Pasted
+pub mod PasteLoop
 pub mod Ends
 pub mod Paging
-pub mod Tabled
+pub mod TableOf
 pub mod ListCases
-pub mod Came

@@ -26,7 +26,7 @@ use Rattle.list.specs.ListCall.{Asked, wrongOutput, listRefusals, dueIn,
 use Rattle.list.specs.Moving.{WordIfAfter}
 use Rattle.list.specs.Next.{fromThere, tableOf}
 use Rattle.list.proofs.Ends.{EndOf, end-there}
-use Rattle.list.proofs.Tabled.{same-list, empty-count}
+use Rattle.list.proofs.TableOf.{same-list, empty-count}
 
 neither : (s t : Bool) → s || t ≡ false → (s ≡ false) × (t ≡ false)
 neither true t e = absurd (false≢true (sym e))

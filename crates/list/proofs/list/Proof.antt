@@ -5,7 +5,7 @@ use Rattle.list.specs.Moving.{moved}
 use Rattle.list.specs.Next.{tableOf}
 use Rattle.list.specs.ListCall.{Asked, asked}
 use Rattle.list.proofs.ListCases.{Allowed, list-allowed, list-wrong, list-done, due-first}
-use Rattle.list.proofs.Tabled.{table-falls}
+use Rattle.list.proofs.TableOf.{table-falls}
 use borrow.Author.Needs.{needs}
 use Rattle.list.proofs.list.Statement.{statement}
 use Rattle.list.proofs.list.Tie as tie

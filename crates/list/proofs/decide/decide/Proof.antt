@@ -2,12 +2,12 @@
 -- before the books, since any of them gives the first number. Assumes nothing.
 use mathlib.Core.Path.{_≡_, sym, ap, _∙_}
 use mathlib.Core.Bool.{false, _||_}
+use mathlib.Core.Logic.{⊎-elim}
 use mathlib.Core.List.{[]}
 use lib.ListN.{length}
 use lib.Dec.{ltb}
 use borrow.Author.Tests.{eq-eqb, ne-eqb}
 use Rattle.books.specs.declared.Checked.{Checked}
-use Rattle.list.proofs.Came.{came}
 use Rattle.books.specs.Check.{checkCall}
 use Rattle.list.specs.ListCall.{Asked, asked, wrongOutput}
 use Rattle.list.specs.Next.{tableOf}
@@ -53,8 +53,8 @@ wrong-output-requires c κs = search needs
 returns : tie.Need-returns
 returns c =
     let g = call (c .before) in
-    came (c .if1 .came) (λ p. size-wrong g (rw (ne-eqb (length (g .word)) 16 (p .taken))))
-    (λ p. size-wrong g (rw (eq-eqb (length (g .word)) 16 (p .0 .left)) (sym (p .1 .ensures) ∙ p .2 .taken)))
+    ⊎-elim (λ p. size-wrong g (rw (ne-eqb (length (g .word)) 16 (p .taken))))
+    (λ p. size-wrong g (rw (eq-eqb (length (g .word)) 16 (p .0 .left)) (sym (p .1 .ensures) ∙ p .2 .taken))) (c .if1 .came)
 
 check-requires : tie.Need-check-requires
 check-requires c κs = search needs
@@ -96,8 +96,8 @@ returns-6 c =
     let at-limit = at-quorum .before .before in
     let at-books = at-limit .before in
     let g = known at-books in
-    came (c .if6 .came) (λ p. word-taken g (seen at-books) (at-limit .if4 .left) (quorum-right at-quorum) (p .0 .taken) (sym (p .1 .ensures) ∙ p .2 .left))
-    (λ p. word-unasked g (seen at-books) (at-limit .if4 .left) (quorum-right at-quorum) (p .left))
+    ⊎-elim (λ p. word-taken g (seen at-books) (at-limit .if4 .left) (quorum-right at-quorum) (p .0 .taken) (sym (p .1 .ensures) ∙ p .2 .left))
+    (λ p. word-unasked g (seen at-books) (at-limit .if4 .left) (quorum-right at-quorum) (p .left)) (c .if6 .came)
 
 pub decide-spec : {M : Type 1} → statement M
 decide-spec =

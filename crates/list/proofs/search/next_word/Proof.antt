@@ -12,7 +12,7 @@ use Rattle.list.specs.Moving.{stepsIn}
 use Rattle.list.specs.Next.{fromOn, tableOf}
 use Rattle.words.proofs.Members.{snoc-steps}
 use Rattle.list.proofs.Climb.{extend-after}
-use Rattle.list.proofs.Moves.{climbed-past}
+use Rattle.list.proofs.WordMoves.{climbed-past}
 use Rattle.list.proofs.search.next_word.Statement.{statement}
 use Rattle.list.proofs.search.next_word.Tie as tie
 

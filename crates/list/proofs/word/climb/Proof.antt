@@ -9,7 +9,7 @@ use lib.ListN.{length, take, getD}
 use borrow.Author.Needs.{needs}
 use Rattle.list.specs.Moving.{stepsIn, Fit}
 use Rattle.list.specs.Next.{climbed}
-use Rattle.list.proofs.Moves.{raised, shortened, front-word, raised-word}
+use Rattle.list.proofs.WordMoves.{raised, shortened, front-word, raised-word}
 use Rattle.list.proofs.word.climb.Statement.{statement}
 use Rattle.list.proofs.word.climb.Tie as tie
 

@@ -3,7 +3,7 @@ use native.Mathlib.Omega.{arith}
 use mathlib.Core.Path.{_≡_, refl}
 use lib.ListN.{length}
 use borrow.Author.Needs.{needs}
-use Rattle.list.proofs.Moves.{last-set}
+use Rattle.list.proofs.WordMoves.{last-set}
 use Rattle.list.proofs.word.Word.raise.Statement.{statement}
 use Rattle.list.proofs.word.Word.raise.Tie as tie
 
