@@ -1,5 +1,5 @@
 pub mod Order
 pub mod Records
-pub mod Moves
+pub mod RoomForKey
 pub mod Ranks
-pub mod Asked
+pub mod KeyCompared

@@ -10,7 +10,7 @@ use borrow.Author.Needs.{needs}
 use Rattle.records.specs.Bytes.{records}
 use Rattle.table.proofs.Records.{length-records}
 use Rattle.table.proofs.Ranks.{rank-most}
-use Rattle.table.proofs.Asked.{stays, other, goes-in}
+use Rattle.table.proofs.KeyCompared.{stays, other, goes-in}
 use Rattle.table.proofs.insert.Statement.{statement}
 use Rattle.table.proofs.insert.Tie as tie
 

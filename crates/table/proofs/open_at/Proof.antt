@@ -6,7 +6,7 @@ use lib.ListN.{length}
 use lib.Seq.{paste}
 use borrow.Author.Needs.{needs}
 use Rattle.records.specs.Bytes.{records}
-use Rattle.table.proofs.Moves.{opened-keys}
+use Rattle.table.proofs.RoomForKey.{opened-keys}
 use Rattle.table.proofs.open_at.Statement.{statement}
 use Rattle.table.proofs.open_at.Tie as tie
 

@@ -7,7 +7,7 @@ use Rattle.records.specs.Bytes.{records}
 use Rattle.table.specs.Keys.{rankOf}
 use Rattle.table.proofs.Records.{length-records}
 use Rattle.table.proofs.Ranks.{rank-most}
-use Rattle.table.proofs.Asked.{rank-past, rank-within}
+use Rattle.table.proofs.KeyCompared.{rank-past, rank-within}
 use Rattle.table.proofs.rank.Statement.{statement}
 use Rattle.table.proofs.rank.Tie as tie
 

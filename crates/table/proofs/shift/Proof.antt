@@ -6,7 +6,7 @@ use mathlib.Core.List.{List}
 use lib.ListN.{length, set, getD, length-set}
 use borrow.Author.Needs.{needs}
 use Rattle.table.specs.Keys.{shifted}
-use Rattle.table.proofs.Moves.{shift-start, shift-step}
+use Rattle.table.proofs.RoomForKey.{shift-start, shift-step}
 use Rattle.table.proofs.shift.Statement.{statement}
 use Rattle.table.proofs.shift.Tie as tie
 
