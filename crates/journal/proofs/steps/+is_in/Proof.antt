@@ -28,104 +28,48 @@ is-in-at t = and 2 is-in-kinds.ps (is 2 is-in-kinds.ps μ-is-in t) is-in.Pre
 abbrev is-in-below : ℕ → In 2 is-in-kinds.ps
 is-in-below t = and 2 is-in-kinds.ps (falls 2 is-in-kinds.ps _<_ μ-is-in t) is-in.Pre
 
-is-in-returns : (t : ℕ) → is-in-lts.Need-returns (
-  find-reads.Asked,
-  find-reads.Learnt,
-  is-in-below t,
-  is-in.Post,
-) (is-in-at t) is-in.Post
+-- what its calls ask and say, those of itself below the measure t
+abbrev claims : ℕ → is-in-lts.Claims
+claims t = (find-reads.Asked, find-reads.Learnt, is-in-below t, is-in.Post)
+
+is-in-returns : (t : ℕ) → is-in-lts.Need-returns (claims t) (is-in-at t) is-in.Post
 is-in-returns t c = sym (in-empty (c .before .before .before .args .word .now) (c .before .before .before .args .journal .now) (c .if1 .taken))
 
-is-in-shared-slice-read-find : (t : ℕ) → is-in-lts.Need-shared-slice-read-find (
-  find-reads.Asked,
-  find-reads.Learnt,
-  is-in-below t,
-  is-in.Post,
-) (is-in-at t) is-in.Post
+is-in-shared-slice-read-find : (t : ℕ) → is-in-lts.Need-shared-slice-read-find (claims t) (is-in-at t) is-in.Post
 is-in-shared-slice-read-find t c = search needs
 
-is-in-find-requires : (t : ℕ) → is-in-lts.Need-find-requires (
-  find-reads.Asked,
-  find-reads.Learnt,
-  is-in-below t,
-  is-in.Post,
-) (is-in-at t) is-in.Post
+is-in-find-requires : (t : ℕ) → is-in-lts.Need-find-requires (claims t) (is-in-at t) is-in.Post
 is-in-find-requires t c κs = search needs
 
-is-in-sub-is-in : (t : ℕ) → is-in-lts.Need-sub-is-in (
-  find-reads.Asked,
-  find-reads.Learnt,
-  is-in-below t,
-  is-in.Post,
-) (is-in-at t) is-in.Post
+is-in-sub-is-in : (t : ℕ) → is-in-lts.Need-sub-is-in (claims t) (is-in-at t) is-in.Post
 is-in-sub-is-in t c = search needs
 
-is-in-part-is-in-start : (t : ℕ) → is-in-lts.Need-part-is-in-start (
-  find-reads.Asked,
-  find-reads.Learnt,
-  is-in-below t,
-  is-in.Post,
-) (is-in-at t) is-in.Post
+is-in-part-is-in-start : (t : ℕ) → is-in-lts.Need-part-is-in-start (claims t) (is-in-at t) is-in.Post
 is-in-part-is-in-start t c = search needs
 
-is-in-part-is-in-end : (t : ℕ) → is-in-lts.Need-part-is-in-end (
-  find-reads.Asked,
-  find-reads.Learnt,
-  is-in-below t,
-  is-in.Post,
-) (is-in-at t) is-in.Post
+is-in-part-is-in-end : (t : ℕ) → is-in-lts.Need-part-is-in-end (claims t) (is-in-at t) is-in.Post
 is-in-part-is-in-end t c = search needs
 
-is-in-add-is-in : (t : ℕ) → is-in-lts.Need-add-is-in (
-  find-reads.Asked,
-  find-reads.Learnt,
-  is-in-below t,
-  is-in.Post,
-) (is-in-at t) is-in.Post
+is-in-add-is-in : (t : ℕ) → is-in-lts.Need-add-is-in (claims t) (is-in-at t) is-in.Post
 is-in-add-is-in t c = search needs
 
-is-in-sub-is-in-2 : (t : ℕ) → is-in-lts.Need-sub-is-in-2 (
-  find-reads.Asked,
-  find-reads.Learnt,
-  is-in-below t,
-  is-in.Post,
-) (is-in-at t) is-in.Post
+is-in-sub-is-in-2 : (t : ℕ) → is-in-lts.Need-sub-is-in-2 (claims t) (is-in-at t) is-in.Post
 is-in-sub-is-in-2 t c = search needs
 
-is-in-part-is-in-start-2 : (t : ℕ) → is-in-lts.Need-part-is-in-start-2 (
-  find-reads.Asked,
-  find-reads.Learnt,
-  is-in-below t,
-  is-in.Post,
-) (is-in-at t) is-in.Post
+is-in-part-is-in-start-2 : (t : ℕ) → is-in-lts.Need-part-is-in-start-2 (claims t) (is-in-at t) is-in.Post
 is-in-part-is-in-start-2 t c = search needs
 
-is-in-part-is-in-end-2 : (t : ℕ) → is-in-lts.Need-part-is-in-end-2 (
-  find-reads.Asked,
-  find-reads.Learnt,
-  is-in-below t,
-  is-in.Post,
-) (is-in-at t) is-in.Post
+is-in-part-is-in-end-2 : (t : ℕ) → is-in-lts.Need-part-is-in-end-2 (claims t) (is-in-at t) is-in.Post
 is-in-part-is-in-end-2 t c = search needs
 
-is-in-is-in-requires : (t : ℕ) → is-in-lts.Need-is-in-requires (
-  find-reads.Asked,
-  find-reads.Learnt,
-  is-in-below t,
-  is-in.Post,
-) (is-in-at t) is-in.Post
+is-in-is-in-requires : (t : ℕ) → is-in-lts.Need-is-in-requires (claims t) (is-in-at t) is-in.Post
 is-in-is-in-requires t c κs =
     let at-find = c .before .before .before in
     let s = at-find .before .before .before .before .before in
     let w = s .args .word .now in
     (omega (arith, ap length (part-rest 1 w), length-drop 1 w, s .pre .0), tt)
 
-is-in-returns-2 : (t : ℕ) → is-in-lts.Need-returns-2 (
-  find-reads.Asked,
-  find-reads.Learnt,
-  is-in-below t,
-  is-in.Post,
-) (is-in-at t) is-in.Post
+is-in-returns-2 : (t : ℕ) → is-in-lts.Need-returns-2 (claims t) (is-in-at t) is-in.Post
 is-in-returns-2 t c =
     let at-found = c .before .before .before in
     let at-find = at-found .before in
@@ -137,12 +81,7 @@ is-in-returns-2 t c =
     c .is-in .ensures ∙ ap (λ (x : List ℕ). isIn x (take (length js - (k + 1)) (drop (k + 1) js))) (part-rest 1 w) ∙ ap (λ (x : List ℕ). isIn (drop 1 w) x) (part-rest (k + 1) js)
     ∙ sym (in-found w js k (at-some .if1 .left) (at-find .find .ensures) (at-found .if2 .taken))
 
-is-in-returns-3 : (t : ℕ) → is-in-lts.Need-returns-3 (
-  find-reads.Asked,
-  find-reads.Learnt,
-  is-in-below t,
-  is-in.Post,
-) (is-in-at t) is-in.Post
+is-in-returns-3 : (t : ℕ) → is-in-lts.Need-returns-3 (claims t) (is-in-at t) is-in.Post
 is-in-returns-3 t c =
     let s = c .before .before .before .before .before .before in
     let w = s .args .word .now in
@@ -150,12 +89,7 @@ is-in-returns-3 t c =
     sym (in-lost w js (c .before .find .result) (c .before .before .before .if1 .left) (c .before .find .ensures) (c .if2 .left))
 
 pub +is-in-spec : {M : Type 1} → statement M
-+is-in-spec = close μ-is-in λ t. is-in-lts.spec (
-  find-reads.Asked,
-  find-reads.Learnt,
-  is-in-below t,
-  is-in.Post,
-)
++is-in-spec = close μ-is-in λ t. is-in-lts.spec (claims t)
     (is-in-at t)
     is-in.Post
     (is-in-returns t)
