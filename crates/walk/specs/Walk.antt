@@ -1,4 +1,4 @@
--- A walk along the arcs of a row book, whatever its content. Assumes nothing.
+-- A walk along the arcs of a row book, whatever its content, and where it ends, in the code's own `Walked`. Assumes nothing.
 use Prim.Native.Nat.{ℕ}
 use mathlib.Core.Bool.{Bool, cond, _||_}
 use mathlib.Core.List.{List, [], _∷_}
