@@ -9,7 +9,9 @@ use Rattle.books.specs.OpenJournals.{openJournalsRefusals, openJournalsCall}
 use Rattle.books.specs.declared.OpenJournals.{OpenJournals}
 use Rattle.books.specs.Clear.{after}
 use Rattle.books.proofs.OpenJournalsCases.{open-told, open-few}
-use Rattle.feed.specs.Entry.{Entry, entryOf, enter, entryCall}
+use Rattle.entries.specs.Entry.{entryOf}
+use Rattle.entries.specs.declared.entry.Entry.{Entry}
+use Rattle.feed.specs.Entry.{enter, entryCall}
 
 module _ (jb : List ℕ) (o : OpenJournals) (e : o ≡ openJournalsCall jb) where
   same-number : o .number ≡ first (openJournalsRefusals jb)

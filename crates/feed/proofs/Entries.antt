@@ -16,7 +16,10 @@ use Rattle.books.specs.Append.{appendCall}
 use Rattle.books.specs.Runs.{opens, appends}
 use Rattle.books.proofs.Refusals.{refused, call-refused}
 use Rattle.books.proofs.Runs.{call-keeps}
-use Rattle.feed.specs.Entry.{Entry, broken, append-entry, open-entry, open-append-entry, entryOf, openAppend, openAppendWhole, enter, entryCall}
+use Rattle.entries.specs.Entry.{entryOf}
+use Rattle.entries.specs.declared.entry.Entry.{Entry}
+use Rattle.entries.specs.declared.entry.Entry.the-variants.{Broken, Append, Open, OpenAppend}
+use Rattle.feed.specs.Entry.{openAppend, openAppendWhole, enter, entryCall}
 
 -- refused, it leaves the books jb and rb
 abbrev Whole : List ℕ → List ℕ → After → Type 0
@@ -43,10 +46,10 @@ module _ (jb rb : List ℕ) where
 
   enter-whole : (e : Entry) → Whole jb rb (enter e jb rb)
   unfolding enter
-  enter-whole broken h = (refl, refl)
-  enter-whole (append-entry s) h = call-refused (appends s) jb rb h
-  enter-whole open-entry h = call-refused opens jb rb h
-  enter-whole (open-append-entry s) h = open-append-whole s h
+  enter-whole Broken h = (refl, refl)
+  enter-whole (Append s) h = call-refused (appends s) jb rb h
+  enter-whole Open h = call-refused opens jb rb h
+  enter-whole (OpenAppend s) h = open-append-whole s h
 
   -- a refused entry leaves both books
   pub entry-whole : (n s : ℕ) → (entryCall jb rb n s .number ≡ 0 → ⊥) → (entryCall jb rb n s .journals ≡ jb) × (entryCall jb rb n s .rows ≡ rb)
@@ -72,10 +75,10 @@ module _ (js : List (List ℕ)) (jb rb : List ℕ) (b : BooksOf js jb rb) where
 
   enter-keeps : (e : Entry) → Kept (enter e jb rb)
   unfolding enter
-  enter-keeps broken = (js, b)
-  enter-keeps (append-entry s) = (_, call-keeps js jb rb b (appends s))
-  enter-keeps open-entry = (_, call-keeps js jb rb b opens)
-  enter-keeps (open-append-entry s) = whole-keeps s
+  enter-keeps Broken = (js, b)
+  enter-keeps (Append s) = (_, call-keeps js jb rb b (appends s))
+  enter-keeps Open = (_, call-keeps js jb rb b opens)
+  enter-keeps (OpenAppend s) = whole-keeps s
 
   -- from the books of journals, an entry leads to the books of journals
   pub entry-keeps : (n s : ℕ) → (ks : List (List ℕ)) × BooksOf ks (entryCall jb rb n s .journals) (entryCall jb rb n s .rows)

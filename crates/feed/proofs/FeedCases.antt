@@ -7,14 +7,14 @@ use mathlib.Core.List.{List, [], _∷_}
 use lib.ListN.{length, drop}
 use borrow.Author.Tests.{eq-eqb, ne-eqb}
 use Rattle.feed.specs.Entry.{entryCall, AfterFeeding, feedFrom}
-use Rattle.feed.specs.Reading.{readAt}
+use Rattle.entries.specs.Reading.{readAt}
 use Rattle.feed.specs.Taking.{AfterTaking, took, cameOf, takeRead, takeAt}
 use Rattle.feed.specs.declared.entry.Taken.{Taken}
 use Rattle.feed.specs.declared.entry.Taken.the-variants.{Next, Refused, All}
-use Rattle.feed.specs.declared.reader.Read.{Read}
-use Rattle.feed.specs.declared.reader.Read.the-variants.{Entry, Lone, End}
+use Rattle.entries.specs.declared.reader.Read.{Read}
+use Rattle.entries.specs.declared.reader.Read.the-variants.{Entry, Lone, End}
 use Rattle.feed.proofs.Entries.{entry-whole}
-use Rattle.feed.proofs.Reading.{Stands, read-stands}
+use Rattle.entries.proofs.Reading.{Stands, read-stands}
 
 -- what ends a row of entries
 abbrev pub ended : ℕ → ℕ → List ℕ → List ℕ → AfterFeeding

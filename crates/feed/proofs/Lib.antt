@@ -1,9 +1,7 @@
 pub mod OneOutcome
 pub mod AskCases
-pub mod Asking
 pub mod EntryCases
 pub mod Entering
-pub mod Reading
 pub mod TakeCases
 pub mod Entries
 pub mod FeedCases

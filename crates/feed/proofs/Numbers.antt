@@ -17,7 +17,10 @@ use Rattle.books.specs.OpenJournals.{openJournalsRefusals}
 use Rattle.books.specs.Append.{appendRefusals, appendAtCall, appendCall}
 use Rattle.books.proofs.Refusals.{first-given, refused}
 use Rattle.feed.specs.Ask.{askRefusals, askCall}
-use Rattle.feed.specs.Entry.{Entry, broken, append-entry, open-entry, open-append-entry, entryOf, openAppend, openAppendWhole, enter, entryCall}
+use Rattle.entries.specs.Entry.{entryOf}
+use Rattle.entries.specs.declared.entry.Entry.{Entry}
+use Rattle.entries.specs.declared.entry.Entry.the-variants.{Broken, Append, Open, OpenAppend}
+use Rattle.feed.specs.Entry.{openAppend, openAppendWhole, enter, entryCall}
 
 -- the ask: each number exactly under its condition and no earlier one
 pub ask-numbers : (k : ℕ) (file : List ℕ) → Given (askRefusals k file) (askCall k file .number)
@@ -60,18 +63,18 @@ module _ (jb rb : List ℕ) where
       let o : After = openCall jb rb in
       either-other (eqb (o .number) 0) (appendCall (o .journals) (o .rows) s) o (append-other (o .journals) (o .rows) s) (open-other jb rb)
 
-  enter-broken : (e : Entry) → enter e jb rb .number ≡ brokenEntry → e ≡ broken
+  enter-broken : (e : Entry) → enter e jb rb .number ≡ brokenEntry → e ≡ Broken
   unfolding enter
-  enter-broken broken h = refl
-  enter-broken (append-entry s) h = absurd (append-other jb rb s h)
-  enter-broken open-entry h = absurd (open-other jb rb h)
-  enter-broken (open-append-entry s) h = absurd (whole-other s h)
+  enter-broken Broken h = refl
+  enter-broken (Append s) h = absurd (append-other jb rb s h)
+  enter-broken Open h = absurd (open-other jb rb h)
+  enter-broken (OpenAppend s) h = absurd (whole-other s h)
 
-  broken-enters : (e : Entry) → e ≡ broken → enter e jb rb .number ≡ brokenEntry
+  broken-enters : (e : Entry) → e ≡ Broken → enter e jb rb .number ≡ brokenEntry
   unfolding enter
   broken-enters e b = rw b
 
   -- on a journal book of right form, an entry is refused with 11 exactly when it is broken
-  pub entry-broken : first (openJournalsRefusals jb) ≡ 0 → (n s : ℕ) → (entryCall jb rb n s .number ≡ brokenEntry) ↔ (entryOf (length (journalsOf jb)) n s ≡ broken)
+  pub entry-broken : first (openJournalsRefusals jb) ≡ 0 → (n s : ℕ) → (entryCall jb rb n s .number ≡ brokenEntry) ↔ (entryOf (length (journalsOf jb)) n s ≡ Broken)
   unfolding entryCall
   entry-broken z n s = rw z (enter-broken (entryOf (length (journalsOf jb)) n s), broken-enters (entryOf (length (journalsOf jb)) n s))

@@ -5,11 +5,11 @@ use mathlib.Core.Path.{_≡_, refl, sym, ap, _∙_}
 use mathlib.Core.List.{List}
 use Rattle.books.specs.Clear.{After, after}
 use Rattle.feed.specs.Entry.{entryCall}
-use Rattle.feed.specs.Reading.{readAt}
+use Rattle.entries.specs.Reading.{readAt}
 use Rattle.feed.specs.Taking.{took, cameOf, takeRead, takeAt}
 use Rattle.feed.specs.declared.entry.Taken.the-variants.{Next, Refused}
-use Rattle.feed.specs.declared.reader.Read.{Read}
-use Rattle.feed.specs.declared.reader.Read.the-variants.{Entry}
+use Rattle.entries.specs.declared.reader.Read.{Read}
+use Rattle.entries.specs.declared.reader.Read.the-variants.{Entry}
 
 came-refused : (m next : ℕ) → (m ≡ 0 → ⊥) → Refused m ≡ cameOf m next
 came-refused zero next h = absurd (h refl)

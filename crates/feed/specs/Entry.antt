@@ -1,36 +1,19 @@
 -- The loading program's entries: what one does to the books, or the number that it is refused with, and what a row of them does. Assumes nothing.
-use Prim.Native.Nat.{ℕ, suc, _+_}
-use mathlib.Core.Bool.{cond, _&&_}
+use Prim.Native.Nat.{ℕ, suc}
+use mathlib.Core.Bool.{cond}
 use mathlib.Core.List.{List, [], _∷_}
 use lib.ListN.{length}
-use lib.Dec.{eqb, ltb}
-use Rattle.words.specs.Limits.{stepCodes}
+use lib.Dec.{eqb}
 use Rattle.books.specs.Numbers.{first, done, brokenEntry}
 use Rattle.records.specs.JournalBook.{journalsOf}
 use Rattle.books.specs.Clear.{After, after, leaves}
+use Rattle.entries.specs.Entry.{entryOf}
+use Rattle.entries.specs.declared.entry.Entry.{Entry}
+use Rattle.entries.specs.declared.entry.Entry.the-variants.{Broken, Append, Open, OpenAppend}
 use Rattle.feed.specs.declared.Fed.{Fed}
 use Rattle.books.specs.Open.{openCall}
 use Rattle.books.specs.Append.{appendCall}
 use Rattle.books.specs.OpenJournals.{openJournalsRefusals}
-
--- the step that only opens
-abbrev pub onlyOpen : ℕ
-onlyOpen = 255
-
--- what an entry asks for
-pub data Entry : Type 0 where
-  broken : Entry
-  append-entry : ℕ → Entry
-  open-entry : Entry
-  open-append-entry : ℕ → Entry
-
--- with k journals open, what the journal number n and the step s ask for:
--- A number one below k appends to the last journal. The number k opens the next journal and appends, or, with step 255, only opens it.
--- Any other number, a step from 16 to 254, or 255 for the journal already open is broken.
-unfoldable pub entryOf : ℕ → ℕ → ℕ → Entry
-entryOf k n s =
-    cond (eqb n k) (cond (ltb s stepCodes) (open-append-entry s) (cond (eqb s onlyOpen) open-entry broken))
-    (cond (eqb (n + 1) k && ltb s stepCodes) (append-entry s) broken)
 
 -- opening, and appending where that is done
 unfoldable pub openAppend : List ℕ → List ℕ → ℕ → After
@@ -44,10 +27,10 @@ unfoldable pub openAppendWhole : List ℕ → List ℕ → ℕ → After
 openAppendWhole jb rb s = let a : After = openAppend jb rb s in leaves (a .number) (a .journals) (a .rows) jb rb
 
 unfoldable pub enter : Entry → List ℕ → List ℕ → After
-enter broken jb rb = after brokenEntry jb rb
-enter (append-entry s) jb rb = appendCall jb rb s
-enter open-entry jb rb = openCall jb rb
-enter (open-append-entry s) jb rb = openAppendWhole jb rb s
+enter Broken jb rb = after brokenEntry jb rb
+enter (Append s) jb rb = appendCall jb rb s
+enter Open jb rb = openCall jb rb
+enter (OpenAppend s) jb rb = openAppendWhole jb rb s
 
 -- one entry: a journal number and a step; a journal book that isn't one is refused as the number of its open journals is
 unfoldable pub entryCall : List ℕ → List ℕ → ℕ → ℕ → After

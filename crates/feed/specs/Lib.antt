@@ -1,5 +1,3 @@
 pub mod Entry
 pub mod Ask
-pub mod Asked
-pub mod Reading
 pub mod Taking

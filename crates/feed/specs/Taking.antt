@@ -5,10 +5,10 @@ use Rattle.books.specs.Numbers.{brokenEntry}
 use Rattle.books.specs.Clear.{After}
 use Rattle.feed.specs.declared.entry.Taken.{Taken}
 use Rattle.feed.specs.declared.entry.Taken.the-variants.{Next, Refused, All}
-use Rattle.feed.specs.declared.reader.Read.{Read}
-use Rattle.feed.specs.declared.reader.Read.the-variants.{Entry, Lone, End}
+use Rattle.entries.specs.declared.reader.Read.{Read}
+use Rattle.entries.specs.declared.reader.Read.the-variants.{Entry, Lone, End}
 use Rattle.feed.specs.Entry.{entryCall}
-use Rattle.feed.specs.Reading.{readAt}
+use Rattle.entries.specs.Reading.{readAt}
 
 -- what looking for an entry leaves: what came of it, and both books
 pub record AfterTaking : Type 0 where

@@ -1,55 +1,19 @@
-// One entry: what it asks for, and what it does to the books.
+// One entry: what it does to the books.
 
 use crate::copy::copy_all;
-use crate::reader::Read;
-use crate::reader::read_entry;
 use books::number::BROKEN_ENTRY;
 use books::number::DONE;
 use books::number::WRONG_SIZE;
+use entries::Entry;
+use entries::Read;
+use entries::entry_of;
+use entries::read_entry;
 use records::JOURNAL_BOOK;
 use records::ROW_BOOK;
-use words::STEP_CODES;
 ghost use mathlib.Core.Path.{_≡_};
-ghost use Prim.Native.Nat.{_<_};
 ghost use Rattle.books.specs.Clear.{after};
-ghost use Rattle.feed.specs.Entry.{entryOf, openAppend, openAppendWhole, entryCall};
+ghost use Rattle.feed.specs.Entry.{openAppend, openAppendWhole, entryCall};
 ghost use Rattle.feed.specs.Taking.{took, takeAt};
-ghost use Rattle.feed.specs.Asked.{asks};
-
-// The step that only opens.
-const ONLY_OPEN: u8 = 255;
-
-// What an entry asks for.
-pub(crate) enum Entry {
-    Broken,
-    Append(u8),
-    Open,
-    OpenAppend(u8),
-}
-
-// What a journal number and a step ask for where k journals are open.
-fn entry_of(k: usize, number: u8, step: u8) -> Entry
-    requires { ⌜ k < 256 ⌝ }
-    ensures { λ r. ⌜ asks r ≡ entryOf k number step ⌝ }
-{
-    let n = number as usize;
-    if step == ONLY_OPEN {
-        if n == k {
-            return Entry::Open;
-        }
-        return Entry::Broken;
-    }
-    if STEP_CODES <= step {
-        return Entry::Broken;
-    }
-    if n == k {
-        return Entry::OpenAppend(step);
-    }
-    if n + 1 == k {
-        return Entry::Append(step);
-    }
-    Entry::Broken
-}
 
 // Opens the next journal and, where that is done, appends to it.
 fn open_append(journals: &mut [u8], rows: &mut [u8], step: u8) -> u8

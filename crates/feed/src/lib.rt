@@ -4,7 +4,6 @@
 mod ask;
 mod copy;
 mod entry;
-mod reader;
 
 use books::number::DONE;
 use entry::Taken;

@@ -10,7 +10,8 @@ use Rattle.records.specs.RowBook.{rowBook, rowRecord}
 use Rattle.records.specs.Sound.{sound}
 use Rattle.books.specs.Open.{openCall}
 use Rattle.books.specs.Append.{appendAtCall, appendCall}
-use Rattle.feed.specs.Entry.{entryOf, openAppend, openAppendWhole, enter, entryCall, feedFrom, feedCall}
+use Rattle.entries.specs.Entry.{entryOf}
+use Rattle.feed.specs.Entry.{openAppend, openAppendWhole, enter, entryCall, feedFrom, feedCall}
 use Rattle.feed.specs.Ask.{askCall}
 use Rattle.text.specs.Text.{decimal, firstLine, wordLine, lastLine}
 use Rattle.load.specs.Program.{printed}

@@ -1,8 +1,7 @@
 -- `feed::entry::enter` meets its contract: the number of open journals is refused exactly as the entry is, and else it is at most
 -- 16. Then each arm does what its entry asks for. Assumes nothing.
-use mathlib.Core.Path.{sym, ap, _∙_}
+use mathlib.Core.Path.{sym, _∙_}
 use Rattle.feed.specs.Entry.{enter}
-use Rattle.feed.specs.Asked.{asks}
 use Rattle.feed.proofs.Entering.{entry-refused, entered, byte-enough}
 use borrow.Author.Needs.{needs}
 use Rattle.feed.proofs.entry.enter.Statement.{statement}
@@ -53,7 +52,7 @@ returns-2 c =
     let asked = c .before .before in
     let told = asked .before .before in
     let a = told .before .before .before .before .args in
-    entered _ _ (told .open-journals .ensures) (asked .before .if1 .left) _ (a .rows .now) (a .number) (a .step) (ap asks (sym (c .enum-told .given .1)) ∙ asked .entry-of .ensures)
+    entered _ _ (told .open-journals .ensures) (asked .before .if1 .left) _ (a .rows .now) (a .number) (a .step) (sym (c .enum-told .given .1) ∙ asked .entry-of .ensures)
 
 same-length-3 : tie.Need-same-length-3
 same-length-3 c = search needs
@@ -69,7 +68,7 @@ returns-3 c =
     let asked = arm .before .before in
     let told = asked .before .before in
     let a = told .before .before .before .before .args in
-    did .append .ensures ∙ entered _ _ (told .open-journals .ensures) (asked .before .if1 .left) _ (a .rows .now) (a .number) (a .step) (ap asks (sym (arm .s .given .1)) ∙ asked .entry-of .ensures)
+    did .append .ensures ∙ entered _ _ (told .open-journals .ensures) (asked .before .if1 .left) _ (a .rows .now) (a .number) (a .step) (sym (arm .s .given .1) ∙ asked .entry-of .ensures)
 
 same-length-5 : tie.Need-same-length-5
 same-length-5 c = search needs
@@ -85,7 +84,7 @@ returns-4 c =
     let asked = arm .before .before in
     let told = asked .before .before in
     let a = told .before .before .before .before .args in
-    did .«open» .ensures ∙ entered _ _ (told .open-journals .ensures) (asked .before .if1 .left) _ (a .rows .now) (a .number) (a .step) (ap asks (sym (arm .enum-told2 .given .1)) ∙ asked .entry-of .ensures)
+    did .«open» .ensures ∙ entered _ _ (told .open-journals .ensures) (asked .before .if1 .left) _ (a .rows .now) (a .number) (a .step) (sym (arm .enum-told2 .given .1) ∙ asked .entry-of .ensures)
 
 same-length-7 : tie.Need-same-length-7
 same-length-7 c = search needs
@@ -101,7 +100,7 @@ returns-5 c =
     let asked = arm .before .before in
     let told = asked .before .before in
     let a = told .before .before .before .before .args in
-    did .open-append-whole .ensures ∙ entered _ _ (told .open-journals .ensures) (asked .before .if1 .left) _ (a .rows .now) (a .number) (a .step) (ap asks (sym (arm .s2 .given .1)) ∙ asked .entry-of .ensures)
+    did .open-append-whole .ensures ∙ entered _ _ (told .open-journals .ensures) (asked .before .if1 .left) _ (a .rows .now) (a .number) (a .step) (sym (arm .s2 .given .1) ∙ asked .entry-of .ensures)
 
 pub enter-spec : {M : Type 1} → statement M
 enter-spec =

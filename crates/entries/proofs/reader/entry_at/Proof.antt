@@ -1,10 +1,10 @@
--- `feed::reader::entry_at` meets its contract. `readAt` asks the two tests that the code asks, in the same order, so each way out has the answers
+-- `entries::reader::entry_at` meets its contract. `readAt` asks the two tests that the code asks, in the same order, so each way out has the answers
 -- that pick its case. Past both tests two bytes are left, so both reads are within the slice. Assumes nothing.
 use borrow.Author.Needs.{needs}
 use borrow.Author.Tests.{le-leb, lt-leb, eq-eqb, ne-eqb}
-use Rattle.feed.specs.Reading.{readAt}
-use Rattle.feed.proofs.reader.entry_at.Statement.{statement}
-use Rattle.feed.proofs.reader.entry_at.Tie as tie
+use Rattle.entries.specs.Reading.{readAt}
+use Rattle.entries.proofs.reader.entry_at.Statement.{statement}
+use Rattle.entries.proofs.reader.entry_at.Tie as tie
 
 -- nothing is left
 returns : tie.Need-returns

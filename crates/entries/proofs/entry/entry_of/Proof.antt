@@ -1,11 +1,11 @@
--- `feed::entry::entry_of` meets its contract: each return is one case of what an entry asks for. Assumes nothing.
+-- `entries::entry::entry_of` meets its contract: each return is one case of what an entry asks for. Assumes nothing.
 use borrow.Author.Tests.{eq-eqb, ne-eqb, lt-ltb, le-ltb}
-use Rattle.feed.specs.Entry.{entryOf}
-use Rattle.feed.proofs.Asking.{not-code}
+use Rattle.entries.specs.Entry.{entryOf}
+use Rattle.entries.proofs.NotCode.{not-code}
 use borrow.Author.Needs.{needs}
 use native.Mathlib.Omega.{arith}
-use Rattle.feed.proofs.entry.entry_of.Statement.{statement}
-use Rattle.feed.proofs.entry.entry_of.Tie as tie
+use Rattle.entries.proofs.entry.entry_of.Statement.{statement}
+use Rattle.entries.proofs.entry.entry_of.Tie as tie
 
 returns : tie.Need-returns
 unfolding entryOf

@@ -1,4 +1,4 @@
--- `feed::reader::reader_at` meets its contract. One statement puts the slice and the position side by side into the result, and the `ensures` names
+-- `entries::reader::reader_at` meets its contract. One statement puts the slice and the position side by side into the result, and the `ensures` names
 -- just these two, so both equations are `refl`. A shared slice may be owned twice over: one half goes into the reader, the other is what is left of
 -- `bytes` at exit. Of a number only the fact that it fits is owned, and that is stated anew wherever it is asked. Assumes nothing.
 use mathlib.Core.Path.{refl}
@@ -34,13 +34,13 @@ use denote.Triple.Spec.{Meets, tripleOf}
 use denote.Triple.Table.{entered}
 use denote.Triple.Walked.{says, Stays, stay-none, stay-none-slice, walkOf, goes-none, goes-none-slice, Walks, ends-at, walked, walk-meets}
 use denote.Exit.{yes}
-use Rattle.feed.specs.declared.reader.Reader.{Reader}
-use Rattle.feed.proofs.reader.Reader as T
-use Rattle.feed.proofs.reader.Reader.Laws as T′
-use Rattle.feed.proofs.reader.reader_at.Key.{name as #feed·reader·reader-at}
-use Rattle.feed.proofs.reader.reader_at as reader-at
-use Rattle.feed.proofs.reader.reader_at.Statement as stated
-use Rattle.feed.proofs.reader.reader_at.Code as code
+use Rattle.entries.specs.declared.reader.Reader.{Reader}
+use Rattle.entries.proofs.reader.Reader as T
+use Rattle.entries.proofs.reader.Reader.Laws as T′
+use Rattle.entries.proofs.reader.reader_at.Key.{name as #entries·reader·reader-at}
+use Rattle.entries.proofs.reader.reader_at as reader-at
+use Rattle.entries.proofs.reader.reader_at.Statement as stated
+use Rattle.entries.proofs.reader.reader_at.Code as code
 
 -- neither parameter is changed
 abbrev stayed : Stays (reader-at.ended .signature .params) (reader-at.ended .kept)
@@ -102,5 +102,5 @@ pub reader-at-spec : {M : Type 1} → stated.statement M
 unfolding code.routine tablesOf
 reader-at-spec 𝓤 H 𝓜 𝓖 𝓡 =
     entered 𝓤 H (tripleOf 𝓤 H (𝓖 .A) reader-at.signature (reader-at.spec 𝓤 H (𝓖 .A) (𝓜 .mem) (𝓡 .run)))
-    (tables 𝓤 H 𝓜 𝓡 code.env .C) (tables 𝓤 H 𝓜 𝓡 code.env .Λ) #feed·reader·reader-at code.function (code.unfolded 𝓤 H 𝓜 𝓡)
+    (tables 𝓤 H 𝓜 𝓡 code.env .C) (tables 𝓤 H 𝓜 𝓡 code.env .Λ) #entries·reader·reader-at code.function (code.unfolded 𝓤 H 𝓜 𝓡)
     (reader-at-meets 𝓤 H (𝓖 .A) (givenOf 𝓤 H 𝓜 𝓖) (𝓜 .mem) (𝓡 .run) (tablesOf 𝓤 H 𝓜 (tables 𝓤 H 𝓜 𝓡 code.env)))

@@ -1,4 +1,4 @@
--- `feed::reader::next` meets its contract. The reader's two fields are read into locals and handed to `entry_at` in the order in which they stand, so
+-- `entries::reader::next` meets its contract. The reader's two fields are read into locals and handed to `entry_at` in the order in which they stand, so
 -- what the fields own together is just what that call asks. `entry_at` is known by its contract alone, which says the answer of the slice and the
 -- position: the `ensures` here, word for word. A reader may be owned twice over: one half is opened for the call, the other is left at exit. Assumes nothing.
 use mathlib.Core.Path.{_≡_, refl}
@@ -41,21 +41,21 @@ use denote.Triple.Table.{entered, cited}
 use denote.Triple.Walked.{says, Stays, stay-none, walkOf, goes-none, Walks, ends-at, walked, walk-meets}
 use denote.Exit.{yes}
 use denote.Triple.Clauses.{ensured, lasts}
-use Rattle.feed.specs.Reading.{readAt}
-use Rattle.feed.specs.declared.reader.Reader.{Reader}
-use Rattle.feed.specs.declared.reader.Read.{Read}
-use Rattle.feed.proofs.reader.Reader as T
-use Rattle.feed.proofs.reader.Reader.Laws as T′
-use Rattle.feed.proofs.reader.Read as E
-use Rattle.feed.proofs.reader.Read.Laws as E′
-use Rattle.feed.proofs.reader.entry_at as entry-at
-use Rattle.feed.proofs.reader.entry_at.Symbol as entry-at-def
-use Rattle.feed.proofs.reader.entry_at.Symbol.{name as #feed·reader·entry-at}
-use Rattle.feed.proofs.reader.entry_at.Met as entry-at-thm
-use Rattle.feed.proofs.reader.next.Key.{name as #feed·reader·next}
-use Rattle.feed.proofs.reader.next as next
-use Rattle.feed.proofs.reader.next.Statement as stated
-use Rattle.feed.proofs.reader.next.Code as code
+use Rattle.entries.specs.Reading.{readAt}
+use Rattle.entries.specs.declared.reader.Reader.{Reader}
+use Rattle.entries.specs.declared.reader.Read.{Read}
+use Rattle.entries.proofs.reader.Reader as T
+use Rattle.entries.proofs.reader.Reader.Laws as T′
+use Rattle.entries.proofs.reader.Read as E
+use Rattle.entries.proofs.reader.Read.Laws as E′
+use Rattle.entries.proofs.reader.entry_at as entry-at
+use Rattle.entries.proofs.reader.entry_at.Symbol as entry-at-def
+use Rattle.entries.proofs.reader.entry_at.Symbol.{name as #entries·reader·entry-at}
+use Rattle.entries.proofs.reader.entry_at.Met as entry-at-thm
+use Rattle.entries.proofs.reader.next.Key.{name as #entries·reader·next}
+use Rattle.entries.proofs.reader.next as next
+use Rattle.entries.proofs.reader.next.Statement as stated
+use Rattle.entries.proofs.reader.next.Code as code
 
 abbrev α : Lfts 1 → NamedLft
 α κs = namedLft 1 0 tt κs
@@ -126,7 +126,7 @@ module _ {M : Type 1} (𝓤 : URA M) (H : Heap 𝓤) (A : Atoms 𝓤) (W : Given
       suffices ! _ (ends-at 𝓤 H A next.ended stayed (next.clauses 𝓤 H A mem run) W (((κ, tt), (q, tt), tt, (r, tt), (low ∷ [], tt)), tt) u s (tt, tt) (tt, tt)) $ says ! e $
       move ! (1 ∷ []) $ frame ! $ nothing ! $ move ! (2 ∷ 0 ∷ []) $ fjoin ! $ frame ! $ done !
 
-  module _ (C : Calls 𝓤 H) (Λ : Loops 𝓤 H) (fm : FmC 𝓤 H (W .laws) C) (known : Triple 𝓤 (C #feed·reader·entry-at) (EntryAt 𝓤 H A mem run)) where
+  module _ (C : Calls 𝓤 H) (Λ : Loops 𝓤 H) (fm : FmC 𝓤 H (W .laws) C) (known : Triple 𝓤 (C #entries·reader·entry-at) (EntryAt 𝓤 H A mem run)) where
     walk : Holds (hasTy (T′.mir (named 0)) low) × WT low → ent 𝓤 (onEntry 𝓤 H A next.signature (κ, tt) (q, tt) (r, tt) (low ∷ [], tt)) (WpFn 𝓤 H C Λ code.function (low ∷ []) Post)
     walk typed =
         qed W (raw (onEntry 𝓤 H A next.signature (κ, tt) (q, tt) (r, tt) (low ∷ [], tt)) ∷ []) ∵ enter ! C Λ code.function (low ∷ []) _ $
@@ -146,13 +146,13 @@ module _ {M : Type 1} (𝓤 : URA M) (H : Heap 𝓤) (A : Atoms 𝓤) (W : Given
         move ! (9 ∷ 10 ∷ []) $ free1 ! $ move ! (7 ∷ 8 ∷ []) $ free1 ! $ move ! (5 ∷ 6 ∷ []) $ free1 ! $ move ! (3 ∷ 4 ∷ []) $ free1 ! $ free0 ! $ by ! (exits s u e)))))))))
 
 module _ {M : Type 1} (𝓤 : URA M) (H : Heap 𝓤) (A : Atoms 𝓤) (W : Given 𝓤 H A) (mem : Memory → SProp 𝓤) (run : Routine → Fun 𝓤) where
-  next-walks : (C : Calls 𝓤 H) (Λ : Loops 𝓤 H) → FmC 𝓤 H (W .laws) C → Triple 𝓤 (C #feed·reader·entry-at) (EntryAt 𝓤 H A mem run)
+  next-walks : (C : Calls 𝓤 H) (Λ : Loops 𝓤 H) → FmC 𝓤 H (W .laws) C → Triple 𝓤 (C #entries·reader·entry-at) (EntryAt 𝓤 H A mem run)
       → Walks 𝓤 H A next.ended stayed (WpFn 𝓤 H C Λ code.function) (next.clauses 𝓤 H A mem run)
   next-walks C Λ fm known = walked 𝓤 H A next.ended stayed (next.clauses 𝓤 H A mem run) (WpFn 𝓤 H C Λ code.function) (λ κs. (LL.vals (D κs) (L κs), tt)) (λ κs. (LL.tells (D κs) (L κs), tt))
       (λ κs qs bounds a g are. via 𝓤 _ (fst∗ 𝓤 _ (emp 𝓤)) (walk 𝓤 H A W mem run (κs .0) (qs .0) (a .0) C Λ fm known (LL.lawful (D κs) (L κs) 𝓤 H A W .typed (a .0) _ (are .0) .0)))
 
 next-meets : {M : Type 1} (𝓤 : URA M) (H : Heap 𝓤) (A : Atoms 𝓤) (W : Given 𝓤 H A) (mem : Memory → SProp 𝓤) (run : Routine → Fun 𝓤) (𝓣 : Tables 𝓤 H)
-    → Triple 𝓤 (𝓣 .C #feed·reader·entry-at) (EntryAt 𝓤 H A mem run)
+    → Triple 𝓤 (𝓣 .C #entries·reader·entry-at) (EntryAt 𝓤 H A mem run)
     → Meets 𝓤 H A next.signature (WpFn 𝓤 H (𝓣 .C) (𝓣 .Λ) code.function) (next.spec 𝓤 H A mem run)
 next-meets 𝓤 H A W mem run 𝓣 known =
     walk-meets 𝓤 H A next.ended stayed W (goes-none 𝓤 H A W 1 R yes (λ κs x f. refl), tt) (next.clauses 𝓤 H A mem run) (WpFn 𝓤 H (𝓣 .C) (𝓣 .Λ) code.function) (WpFn-mono 𝓤 H (W .laws) 𝓣 code.function)
@@ -162,6 +162,6 @@ pub next-spec : {M : Type 1} → stated.statement M
 unfolding code.routine tablesOf
 next-spec 𝓤 H 𝓜 𝓖 𝓡 =
     entered 𝓤 H (tripleOf 𝓤 H (𝓖 .A) next.signature (next.spec 𝓤 H (𝓖 .A) (𝓜 .mem) (𝓡 .run)))
-    (tables 𝓤 H 𝓜 𝓡 code.env .C) (tables 𝓤 H 𝓜 𝓡 code.env .Λ) #feed·reader·next code.function (code.unfolded 𝓤 H 𝓜 𝓡)
+    (tables 𝓤 H 𝓜 𝓡 code.env .C) (tables 𝓤 H 𝓜 𝓡 code.env .Λ) #entries·reader·next code.function (code.unfolded 𝓤 H 𝓜 𝓡)
     (next-meets 𝓤 H (𝓖 .A) (givenOf 𝓤 H 𝓜 𝓖) (𝓜 .mem) (𝓡 .run) (tablesOf 𝓤 H 𝓜 (tables 𝓤 H 𝓜 𝓡 code.env))
-    (cited 𝓤 H (EntryAt 𝓤 H (𝓖 .A) (𝓜 .mem) (𝓡 .run)) 𝓜 𝓡 code.env #feed·reader·entry-at entry-at-def.routine code.calls-feed·reader·entry-at (entry-at-thm.met 𝓤 H 𝓜 𝓖 𝓡)))
+    (cited 𝓤 H (EntryAt 𝓤 H (𝓖 .A) (𝓜 .mem) (𝓡 .run)) 𝓜 𝓡 code.env #entries·reader·entry-at entry-at-def.routine code.calls-entries·reader·entry-at (entry-at-thm.met 𝓤 H 𝓜 𝓖 𝓡)))

@@ -5,13 +5,14 @@ use mathlib.Core.Bool.{Bool, true, false, _&&_}
 use lib.Dec.{eqb}
 use borrow.Author.Tests.{eqb-true, ne-eqb, le-ltb}
 use Rattle.words.proofs.Test.{test}
-use Rattle.feed.specs.Entry.{broken, entryOf}
+use Rattle.entries.specs.Entry.{entryOf}
+use Rattle.entries.specs.declared.entry.Entry.the-variants.{Broken}
 
 and-false : (b : Bool) → (b && false) ≡ false
 and-false true = refl
 and-false false = refl
 
-pub not-code : (k n s : ℕ) → 16 ≤ s → (n ≡ k → s ≡ 255 → ⊥) → broken ≡ entryOf k n s
+pub not-code : (k n s : ℕ) → 16 ≤ s → (n ≡ k → s ≡ 255 → ⊥) → Broken ≡ entryOf k n s
 unfolding entryOf
 not-code k n s h f =
     test (eqb n k) (λ t. rw (t, le-ltb s 16 h, ne-eqb s 255 (f (eqb-true n k t)))) (λ o. rw (o, le-ltb s 16 h, and-false (eqb (n + 1) k)))

@@ -1,4 +1,4 @@
--- `feed::reader::read_entry` meets its contract. `reader_at` gives a reader of these bytes at this position, and `next` says of any reader what stands
+-- `entries::reader::read_entry` meets its contract. `reader_at` gives a reader of these bytes at this position, and `next` says of any reader what stands
 -- at its position: the one answer put into the other is the `ensures`. Both callees are known by their contracts alone. The slice may be owned twice
 -- over, so one half goes to `reader_at` and the other is left at exit. Between the calls the reader lies in a local whose type leaves the lifetime
 -- open. The value returned has that type too, since nothing in the machine tells one lifetime from another. Assumes nothing.
@@ -39,25 +39,25 @@ use denote.Triple.Table.{entered, cited}
 use denote.Triple.Walked.{says, Stays, stay-none, stay-none-slice, walkOf, goes-none, goes-none-slice, Walks, ends-at, walked, walk-meets}
 use denote.Exit.{yes}
 use denote.Triple.Clauses.{ensured, lasts}
-use Rattle.feed.specs.Reading.{readAt}
-use Rattle.feed.specs.declared.reader.Reader.{Reader}
-use Rattle.feed.specs.declared.reader.Read.{Read}
-use Rattle.feed.proofs.reader.Reader as T
-use Rattle.feed.proofs.reader.Reader.Laws as T′
-use Rattle.feed.proofs.reader.Read as E
-use Rattle.feed.proofs.reader.Read.Laws as E′
-use Rattle.feed.proofs.reader.reader_at as reader-at
-use Rattle.feed.proofs.reader.reader_at.Symbol as reader-at-def
-use Rattle.feed.proofs.reader.reader_at.Symbol.{name as #feed·reader·reader-at}
-use Rattle.feed.proofs.reader.reader_at.Met as reader-at-thm
-use Rattle.feed.proofs.reader.next as next
-use Rattle.feed.proofs.reader.next.Symbol as next-def
-use Rattle.feed.proofs.reader.next.Symbol.{name as #feed·reader·next}
-use Rattle.feed.proofs.reader.next.Met as next-thm
-use Rattle.feed.proofs.reader.read_entry.Key.{name as #feed·reader·read-entry}
-use Rattle.feed.proofs.reader.read_entry as read-entry
-use Rattle.feed.proofs.reader.read_entry.Statement as stated
-use Rattle.feed.proofs.reader.read_entry.Code as code
+use Rattle.entries.specs.Reading.{readAt}
+use Rattle.entries.specs.declared.reader.Reader.{Reader}
+use Rattle.entries.specs.declared.reader.Read.{Read}
+use Rattle.entries.proofs.reader.Reader as T
+use Rattle.entries.proofs.reader.Reader.Laws as T′
+use Rattle.entries.proofs.reader.Read as E
+use Rattle.entries.proofs.reader.Read.Laws as E′
+use Rattle.entries.proofs.reader.reader_at as reader-at
+use Rattle.entries.proofs.reader.reader_at.Symbol as reader-at-def
+use Rattle.entries.proofs.reader.reader_at.Symbol.{name as #entries·reader·reader-at}
+use Rattle.entries.proofs.reader.reader_at.Met as reader-at-thm
+use Rattle.entries.proofs.reader.next as next
+use Rattle.entries.proofs.reader.next.Symbol as next-def
+use Rattle.entries.proofs.reader.next.Symbol.{name as #entries·reader·next}
+use Rattle.entries.proofs.reader.next.Met as next-thm
+use Rattle.entries.proofs.reader.read_entry.Key.{name as #entries·reader·read-entry}
+use Rattle.entries.proofs.reader.read_entry as read-entry
+use Rattle.entries.proofs.reader.read_entry.Statement as stated
+use Rattle.entries.proofs.reader.read_entry.Code as code
 
 -- the type of a reader, at a choice of the slice's lifetime
 abbrev R : Lfts 1 → RattleType
@@ -141,7 +141,7 @@ module _ {M : Type 1} (𝓤 : URA M) (H : Heap 𝓤) (A : Atoms 𝓤) (W : Given
       suffices ! _ (ends-at 𝓤 H A read-entry.ended stayed (read-entry.clauses 𝓤 H A mem run) W (((κ, tt), (q, tt), tt, (b, (n, tt)), vals), tt) u s (tt, (tt, tt)) (tt, (tt, tt))) $ says ! e $
       move ! (1 ∷ []) $ frame ! $ nothing ! $ owned ! usize (Is usize) (uint-makes 𝓤 H A W w64) n _ (refl, fits) $ fjoin ! $ move ! (2 ∷ 0 ∷ []) $ fjoin ! $ frame ! $ done !
 
-  module _ (C : Calls 𝓤 H) (Λ : Loops 𝓤 H) (fm : FmC 𝓤 H (W .laws) C) (known-reader : Triple 𝓤 (C #feed·reader·reader-at) (ReaderAt 𝓤 H A mem run)) (known-next : Triple 𝓤 (C #feed·reader·next) (Next 𝓤 H A mem run)) where
+  module _ (C : Calls 𝓤 H) (Λ : Loops 𝓤 H) (fm : FmC 𝓤 H (W .laws) C) (known-reader : Triple 𝓤 (C #entries·reader·reader-at) (ReaderAt 𝓤 H A mem run)) (known-next : Triple 𝓤 (C #entries·reader·next) (Next 𝓤 H A mem run)) where
     walk : Is (ShrSlice (named 0) κ u8) b (slice ∷ []) → ent 𝓤 (onEntry 𝓤 H A read-entry.signature (κ, tt) (q, tt) (b, (n, tt)) vals) (WpFn 𝓤 H C Λ code.function (slice ∷ vint w64 n ∷ []) Post)
     walk is =
         qed W (raw (onEntry 𝓤 H A read-entry.signature (κ, tt) (q, tt) (b, (n, tt)) vals) ∷ []) ∵ enter ! C Λ code.function (slice ∷ vint w64 n ∷ []) _ $
@@ -166,13 +166,13 @@ module _ {M : Type 1} (𝓤 : URA M) (H : Heap 𝓤) (A : Atoms 𝓤) (W : Given
         move ! (9 ∷ 10 ∷ []) $ free1 ! $ move ! (7 ∷ 8 ∷ []) $ free1 ! $ move ! (5 ∷ 6 ∷ []) $ free1 ! $ move ! (3 ∷ 4 ∷ []) $ free1 ! $ free0 ! $ by ! (exits s u (stands r s m f))))))))))))))
 
 module _ {M : Type 1} (𝓤 : URA M) (H : Heap 𝓤) (A : Atoms 𝓤) (W : Given 𝓤 H A) (mem : Memory → SProp 𝓤) (run : Routine → Fun 𝓤) where
-  read-entry-walks : (C : Calls 𝓤 H) (Λ : Loops 𝓤 H) → FmC 𝓤 H (W .laws) C → Triple 𝓤 (C #feed·reader·reader-at) (ReaderAt 𝓤 H A mem run) → Triple 𝓤 (C #feed·reader·next) (Next 𝓤 H A mem run)
+  read-entry-walks : (C : Calls 𝓤 H) (Λ : Loops 𝓤 H) → FmC 𝓤 H (W .laws) C → Triple 𝓤 (C #entries·reader·reader-at) (ReaderAt 𝓤 H A mem run) → Triple 𝓤 (C #entries·reader·next) (Next 𝓤 H A mem run)
       → Walks 𝓤 H A read-entry.ended stayed (WpFn 𝓤 H C Λ code.function) (read-entry.clauses 𝓤 H A mem run)
   read-entry-walks C Λ fm known-reader known-next = walked 𝓤 H A read-entry.ended stayed (read-entry.clauses 𝓤 H A mem run) (WpFn 𝓤 H C Λ code.function) (λ κs. (slice-vals, (uint-vals w64, tt))) (λ κs. (shr-slice-tells (named 0) (κs .0) u8, (uint-tells w64, tt)))
       (λ κs qs bounds a g are. via 𝓤 _ (fst∗ 𝓤 _ (emp 𝓤)) (walk 𝓤 H A W mem run (κs .0) (qs .0) (a .0) (a .1 .0) (are .1 .0 .1) C Λ fm known-reader known-next (are .0)))
 
 read-entry-meets : {M : Type 1} (𝓤 : URA M) (H : Heap 𝓤) (A : Atoms 𝓤) (W : Given 𝓤 H A) (mem : Memory → SProp 𝓤) (run : Routine → Fun 𝓤) (𝓣 : Tables 𝓤 H)
-    → Triple 𝓤 (𝓣 .C #feed·reader·reader-at) (ReaderAt 𝓤 H A mem run) → Triple 𝓤 (𝓣 .C #feed·reader·next) (Next 𝓤 H A mem run)
+    → Triple 𝓤 (𝓣 .C #entries·reader·reader-at) (ReaderAt 𝓤 H A mem run) → Triple 𝓤 (𝓣 .C #entries·reader·next) (Next 𝓤 H A mem run)
     → Meets 𝓤 H A read-entry.signature (WpFn 𝓤 H (𝓣 .C) (𝓣 .Λ) code.function) (read-entry.spec 𝓤 H A mem run)
 read-entry-meets 𝓤 H A W mem run 𝓣 known-reader known-next =
     walk-meets 𝓤 H A read-entry.ended stayed W (goes-none-slice 𝓤 H A W 1 (0 ∷ []) tt (plain (λ _. u8)) yes, (goes-none 𝓤 H A W 1 (λ _. usize) yes (λ κs x f. refl), tt)) (read-entry.clauses 𝓤 H A mem run) (WpFn 𝓤 H (𝓣 .C) (𝓣 .Λ) code.function) (WpFn-mono 𝓤 H (W .laws) 𝓣 code.function)
@@ -182,7 +182,7 @@ pub read-entry-spec : {M : Type 1} → stated.statement M
 unfolding code.routine tablesOf
 read-entry-spec 𝓤 H 𝓜 𝓖 𝓡 =
     entered 𝓤 H (tripleOf 𝓤 H (𝓖 .A) read-entry.signature (read-entry.spec 𝓤 H (𝓖 .A) (𝓜 .mem) (𝓡 .run)))
-    (tables 𝓤 H 𝓜 𝓡 code.env .C) (tables 𝓤 H 𝓜 𝓡 code.env .Λ) #feed·reader·read-entry code.function (code.unfolded 𝓤 H 𝓜 𝓡)
+    (tables 𝓤 H 𝓜 𝓡 code.env .C) (tables 𝓤 H 𝓜 𝓡 code.env .Λ) #entries·reader·read-entry code.function (code.unfolded 𝓤 H 𝓜 𝓡)
     (read-entry-meets 𝓤 H (𝓖 .A) (givenOf 𝓤 H 𝓜 𝓖) (𝓜 .mem) (𝓡 .run) (tablesOf 𝓤 H 𝓜 (tables 𝓤 H 𝓜 𝓡 code.env))
-    (cited 𝓤 H (ReaderAt 𝓤 H (𝓖 .A) (𝓜 .mem) (𝓡 .run)) 𝓜 𝓡 code.env #feed·reader·reader-at reader-at-def.routine code.calls-feed·reader·reader-at (reader-at-thm.met 𝓤 H 𝓜 𝓖 𝓡))
-    (cited 𝓤 H (Next 𝓤 H (𝓖 .A) (𝓜 .mem) (𝓡 .run)) 𝓜 𝓡 code.env #feed·reader·next next-def.routine code.calls-feed·reader·next (next-thm.met 𝓤 H 𝓜 𝓖 𝓡)))
+    (cited 𝓤 H (ReaderAt 𝓤 H (𝓖 .A) (𝓜 .mem) (𝓡 .run)) 𝓜 𝓡 code.env #entries·reader·reader-at reader-at-def.routine code.calls-entries·reader·reader-at (reader-at-thm.met 𝓤 H 𝓜 𝓖 𝓡))
+    (cited 𝓤 H (Next 𝓤 H (𝓖 .A) (𝓜 .mem) (𝓡 .run)) 𝓜 𝓡 code.env #entries·reader·next next-def.routine code.calls-entries·reader·next (next-thm.met 𝓤 H 𝓜 𝓖 𝓡)))

@@ -11,9 +11,9 @@ use lib.Dec.{leb, eqb}
 use lib.Seq.{drop-cons}
 use borrow.Author.Tests.{leb-true, leb-false, eqb-true, eqb-false}
 use Rattle.words.proofs.Test.{test}
-use Rattle.feed.specs.Reading.{readAt}
-use Rattle.feed.specs.declared.reader.Read.{Read}
-use Rattle.feed.specs.declared.reader.Read.the-variants.{Entry, Lone, End}
+use Rattle.entries.specs.Reading.{readAt}
+use Rattle.entries.specs.declared.reader.Read.{Read}
+use Rattle.entries.specs.declared.reader.Read.the-variants.{Entry, Lone, End}
 
 -- the bytes from a position on are as what was read there says
 abbrev pub Stands : List ℕ → ℕ → Read → Type 0

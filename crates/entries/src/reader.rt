@@ -2,7 +2,7 @@
 // knows how long an entry is. The functions over it are thin; `entry_at` does the work.
 
 ghost use mathlib.Core.Path.{_≡_};
-ghost use Rattle.feed.specs.Reading.{readAt};
+ghost use Rattle.entries.specs.Reading.{readAt};
 
 // The bytes read, and where the next entry stands in them.
 pub(crate) struct Reader<'a> {
@@ -11,7 +11,7 @@ pub(crate) struct Reader<'a> {
 }
 
 // What stands at a position: an entry of two bytes with the position behind it, a lone last byte, or nothing.
-pub(crate) enum Read {
+pub enum Read {
     Entry(u8, u8, usize),
     Lone,
     End,
@@ -45,7 +45,7 @@ fn next<'a>(r: Reader<'a>) -> Read
 }
 
 // What stands at a position of the bytes, through a reader.
-pub(crate) fn read_entry(bytes: &[u8], at: usize) -> Read
+pub fn read_entry(bytes: &[u8], at: usize) -> Read
     ensures { λ r. ⌜ r ≡ readAt (now (bytes .entry)) at ⌝ }
 {
     next(reader_at(bytes, at))

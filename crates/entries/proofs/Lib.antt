@@ -1,0 +1,2 @@
+pub mod NotCode
+pub mod Reading
