@@ -1,5 +1,4 @@
-// What the loading program does with its input: entries, the ask, and the text of a line, which `text` makes. Of the
-// books it relies on the promises of `books` alone.
+// What the loading program does with its input: entries and the ask. Of the books it relies on the promises of `books` alone.
 
 mod ask;
 mod copy;
@@ -13,12 +12,6 @@ ghost use Rattle.feed.specs.Entry.{fed, feedCall};
 pub use ask::Ask;
 pub use ask::read_ask;
 pub use entry::enter;
-pub use text::Line;
-pub use text::first_line;
-pub use text::last_line;
-pub use text::refused_ask_line;
-pub use text::refused_entry_line;
-pub use text::word_line;
 
 // How many entries were taken, and the number of the refusal that ended them, or 0.
 pub struct Fed {

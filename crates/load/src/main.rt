@@ -27,7 +27,7 @@ fn load_entries(journals: &mut [u8], rows: &mut [u8]) -> bool {
     let fed = feed::feed(journals, rows, &entries[..n]);
     let number = fed.number;
     if number != DONE {
-        print_line(feed::refused_entry_line(number, fed.taken));
+        print_line(text::refused_entry_line(number, fed.taken));
         return false;
     }
     true
@@ -48,7 +48,7 @@ fn answer(journals: &[u8], rows: &[u8]) {
     let ask = feed::read_ask(most, &file[..n]);
     let number = ask.number;
     if number != DONE {
-        print_line(feed::refused_ask_line(number));
+        print_line(text::refused_ask_line(number));
         return;
     }
     print_list(journals, rows, ask);

@@ -2,10 +2,10 @@
 
 use books::number::DONE;
 use feed::Ask;
-use feed::Line;
 use libc::STDOUT_FILENO;
 use records::LONGEST_WORD;
 use records::WORD_RECORD;
+use text::Line;
 ghost use mathlib.Core.Path.{_≡_};
 ghost use Prim.Native.Nat.{_+_, _*_, _≤_};
 ghost use lib.ListN.{length};
@@ -68,11 +68,11 @@ fn record_line(rows: &[u8], word_record: &[u8]) -> Line
 {
     let n = word_record[0] as usize;
     if LONGEST_WORD < n {
-        return feed::word_line(0, &word_record[..0]);
+        return text::word_line(0, &word_record[..0]);
     }
     let end = 1 + n;
     let counted = books::table_count(rows, &word_record[1..end]);
-    feed::word_line(counted.count, &word_record[1..end])
+    text::word_line(counted.count, &word_record[1..end])
 }
 
 // The word record i of a page.
@@ -156,11 +156,11 @@ fn print_words(journals: &[u8], rows: &[u8], ask: Ask) -> Printed {
 pub(crate) fn print_list(journals: &[u8], rows: &[u8], ask: Ask) {
     let known = books::open_journals(journals);
     let live = books::live_rows(journals, rows);
-    if !print_line(feed::first_line(known.journals, live.rows)) {
+    if !print_line(text::first_line(known.journals, live.rows)) {
         return;
     }
     let printed = print_words(journals, rows, ask);
     if printed.whole {
-        print_line(feed::last_line(printed.words));
+        print_line(text::last_line(printed.words));
     }
 }
