@@ -8,7 +8,7 @@ use lib.ListN.{length, drop}
 use borrow.Author.Tests.{eq-eqb, ne-eqb}
 use Rattle.feed.specs.Entry.{entryCall, AfterFeeding, feedFrom}
 use Rattle.entries.specs.Reading.{readAt}
-use Rattle.feed.specs.Taking.{AfterTaking, took, cameOf, takeRead, takeAt}
+use Rattle.feed.specs.Take.{AfterTaking, took, cameOf, takeRead, takeAt}
 use Rattle.feed.specs.declared.entry.Taken.{Taken}
 use Rattle.feed.specs.declared.entry.Taken.the-variants.{Next, Refused, All}
 use Rattle.entries.specs.declared.reader.Read.{Read}

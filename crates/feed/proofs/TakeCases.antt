@@ -6,7 +6,7 @@ use mathlib.Core.List.{List}
 use Rattle.books.specs.Clear.{After, after}
 use Rattle.feed.specs.Entry.{entryCall}
 use Rattle.entries.specs.Reading.{readAt}
-use Rattle.feed.specs.Taking.{took, cameOf, takeRead, takeAt}
+use Rattle.feed.specs.Take.{took, cameOf, takeRead, takeAt}
 use Rattle.feed.specs.declared.entry.Taken.the-variants.{Next, Refused}
 use Rattle.entries.specs.declared.reader.Read.{Read}
 use Rattle.entries.specs.declared.reader.Read.the-variants.{Entry}

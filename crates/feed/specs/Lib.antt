@@ -1,3 +1,3 @@
 pub mod Entry
 pub mod Ask
-pub mod Taking
+pub mod Take

@@ -1,6 +1,5 @@
 // One entry: what it does to the books.
 
-use crate::copy::copy_all;
 use books::number::BROKEN_ENTRY;
 use books::number::DONE;
 use books::number::WRONG_SIZE;
@@ -8,12 +7,13 @@ use entries::Entry;
 use entries::Read;
 use entries::entry_of;
 use entries::read_entry;
+use fill::copy_all;
 use records::JOURNAL_BOOK;
 use records::ROW_BOOK;
 ghost use mathlib.Core.Path.{_≡_};
 ghost use Rattle.books.specs.Clear.{after};
 ghost use Rattle.feed.specs.Entry.{openAppend, openAppendWhole, entryCall};
-ghost use Rattle.feed.specs.Taking.{took, takeAt};
+ghost use Rattle.feed.specs.Take.{took, takeAt};
 
 // Opens the next journal and, where that is done, appends to it.
 fn open_append(journals: &mut [u8], rows: &mut [u8], step: u8) -> u8

@@ -1,7 +1,6 @@
 // What the loading program does with its input: entries and the ask. Of the books it relies on the promises of `books` alone.
 
 mod ask;
-mod copy;
 mod entry;
 
 use books::number::DONE;
