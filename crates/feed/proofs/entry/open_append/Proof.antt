@@ -16,8 +16,9 @@ same-length-2 c = search needs
 
 returns : tie.Need-returns
 returns c =
-    let a = c .before .before .before .before .before .before .before .before .before .before .args in
-    opening-refused (a .journals .now) (a .rows .now) (a .step) _ _ _ (c .before .before .before .before .before .«open» .ensures) (c .if1 .taken)
+    let opened = c .before .before .before .before .before in
+    let a = opened .before .before .before .before .before .args in
+    opening-refused (a .journals .now) (a .rows .now) (a .step) _ _ _ (opened .«open» .ensures) (c .if1 .taken)
 
 append-requires : tie.Need-append-requires
 append-requires c κs = search needs
@@ -30,9 +31,11 @@ same-length-4 c = search needs
 
 returns-2 : tie.Need-returns-2
 returns-2 c =
-    let a = c .before .before .before .before .before .before .before .before .before .before .before .before .before .before .before .before .before .args in
-    c .before .before .before .before .append .ensures
-    ∙ opening-done (a .journals .now) (a .rows .now) (a .step) _ _ _ (c .before .before .before .before .before .before .before .before .before .before .before .before .«open» .ensures) (c .before .before .before .before .before .before .before .if1 .left)
+    let appended = c .before .before .before .before in
+    let tested = appended .before .before .before in
+    let opened = tested .before .before .before .before .before in
+    let a = opened .before .before .before .before .before .args in
+    appended .append .ensures ∙ opening-done (a .journals .now) (a .rows .now) (a .step) _ _ _ (opened .«open» .ensures) (tested .if1 .left)
 
 pub open-append-spec : {M : Type 1} → statement M
 open-append-spec =

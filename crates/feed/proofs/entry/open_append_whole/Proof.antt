@@ -47,9 +47,13 @@ same-length-2 c = search needs
 
 returns-3 : tie.Need-returns-3
 returns-3 c =
-    let a = c .before .before .before .before .before .before .before .before .before .before .before .before .before .before .before .before .before .before .args in
-    let copies = ap₂ (λ (jb rb : List ℕ). openAppend jb rb (a .step)) (c .before .before .before .before .before .before .before .before .before .before .before .copy-all .ensures) (c .before .before .before .before .before .before .before .copy-all2 .ensures) in
-    whole-refused (a .journals .now) (a .rows .now) (a .step) _ _ _ (c .before .before .before .open-append .ensures ∙ copies) (c .if3 .taken)
+    let done = c .before .before .before in
+    let copied-rows = done .before .before .before .before in
+    let copied-journals = copied-rows .before .before .before .before in
+    let sized = copied-journals .before .before .before in
+    let a = sized .before .before .before .before .args in
+    let copies = ap₂ (λ (jb rb : List ℕ). openAppend jb rb (a .step)) (copied-journals .copy-all .ensures) (copied-rows .copy-all2 .ensures) in
+    whole-refused (a .journals .now) (a .rows .now) (a .step) _ _ _ (done .open-append .ensures ∙ copies) (c .if3 .taken)
 
 slice-aggregate-copy-all-3 : tie.Need-slice-aggregate-copy-all-3
 slice-aggregate-copy-all-3 c = search needs
@@ -71,10 +75,17 @@ same-length-4 c = search needs
 
 returns-4 : tie.Need-returns-4
 returns-4 c =
-    let a = c .before .before .before .before .before .before .before .before .before .before .before .before .before .before .before .before .before .before .before .before .before .before .before .before .before .before .before .before .args in
-    let copies = ap₂ (λ (jb rb : List ℕ). openAppend jb rb (a .step)) (c .before .before .before .before .before .before .before .before .before .before .before .before .before .before .before .before .before .before .before .before .before .copy-all .ensures) (c .before .before .before .before .before .before .before .before .before .before .before .before .before .before .before .before .before .copy-all2 .ensures) in
-    ap₂ (after 0) (c .before .before .before .before .before .before .before .copy-all3 .ensures) (c .before .before .copy-all4 .ensures)
-    ∙ whole-done (a .journals .now) (a .rows .now) (a .step) _ _ _ (c .before .before .before .before .before .before .before .before .before .before .before .before .before .open-append .ensures ∙ copies) (c .before .before .before .before .before .before .before .before .before .before .if3 .left)
+    let rows-back = c .before .before in
+    let journals-back = rows-back .before .before .before .before .before in
+    let tested = journals-back .before .before .before in
+    let done = tested .before .before .before in
+    let copied-rows = done .before .before .before .before in
+    let copied-journals = copied-rows .before .before .before .before in
+    let sized = copied-journals .before .before .before in
+    let a = sized .before .before .before .before .args in
+    let copies = ap₂ (λ (jb rb : List ℕ). openAppend jb rb (a .step)) (copied-journals .copy-all .ensures) (copied-rows .copy-all2 .ensures) in
+    ap₂ (after 0) (journals-back .copy-all3 .ensures) (rows-back .copy-all4 .ensures)
+    ∙ whole-done (a .journals .now) (a .rows .now) (a .step) _ _ _ (done .open-append .ensures ∙ copies) (tested .if3 .left)
 
 pub open-append-whole-spec : {M : Type 1} → statement M
 open-append-whole-spec =
