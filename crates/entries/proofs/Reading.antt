@@ -4,7 +4,7 @@ use Prim.Native.Nat.{ℕ, suc, _+_, _-_, _≤_, _<_}
 use native.Mathlib.Omega.{arith}
 use native.Mathlib.Numerals.{add-one}
 use mathlib.Core.Path.{_≡_, ap, _∙_}
-use mathlib.Core.Bool.{true, false}
+use mathlib.Core.Bool.{cond}
 use mathlib.Core.List.{List, [], _∷_}
 use lib.ListN.{length, drop, getD, drop-of-length-le}
 use lib.Dec.{leb, eqb}
@@ -31,13 +31,16 @@ module _ (es : List ℕ) (at : ℕ) where
       drop-cons es at 0 (omega arith)
       ∙ ap (λ (r : List ℕ). getD es at 0 ∷ r) (rw (← add-one at) (drop-cons es (at + 1) 0 l ∙ ap (λ (r : ℕ). getD es (at + 1) 0 ∷ drop r es) two))
 
+  two-left : at < length es → (length es - at ≡ 1 → ⊥) → Stands es at (Entry (getD es at 0) (getD es (at + 1) 0) (at + 2))
+  two-left h n =
+      let l : at + 1 < length es = omega arith in
+      (omega arith, omega arith, pair-left l)
+
+  some-left : at < length es → Stands es at (cond (eqb (length es - at) 1) Lone (Entry (getD es at 0) (getD es (at + 1) 0) (at + 2)))
+  some-left h =
+      test (eqb (length es - at) 1) (λ t. rw t (_, lone-left h (eqb-true (length es - at) 1 t))) (λ f. rw f (two-left h (eqb-false (length es - at) 1 f)))
+
   pub read-stands : Stands es at (readAt es at)
   unfolding readAt
   read-stands =
-      test
-      (leb (length es) at)
-      (λ t. rw t (drop-of-length-le es (leb-true (length es) at t)))
-      (λ f. let h = leb-false (length es) at f in test (eqb (length es - at) 1) (λ t. rw (f, t) (_, lone-left h (eqb-true (length es - at) 1 t))) (λ m. let n = eqb-false (length es - at) 1 m in rw (f, m) (omega arith, omega arith, pair-left (more h n))))
-    where
-      more : at < length es → (length es - at ≡ 1 → ⊥) → at + 1 < length es
-      more h n = omega arith
+      test (leb (length es) at) (λ t. rw t (drop-of-length-le es (leb-true (length es) at t))) (λ f. rw f (some-left (leb-false (length es) at f)))

@@ -1,5 +1,5 @@
-// The one small reader over the bytes read: a slice and a position in it. What it reads carries the position behind it, so nobody else
-// knows how long an entry is. The functions over it are thin; `entry_at` does the work.
+// The reader: the bytes that were read and a position in them. What it reads carries the position behind it, so nobody else knows
+// how long an entry is. The functions over it are thin; `entry_at` does the work.
 
 ghost use mathlib.Core.Path.{_≡_};
 ghost use Rattle.entries.specs.Reading.{readAt};

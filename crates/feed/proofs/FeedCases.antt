@@ -9,8 +9,8 @@ use borrow.Author.Tests.{eq-eqb, ne-eqb}
 use Rattle.feed.specs.Entry.{entryCall, AfterFeeding, feedFrom}
 use Rattle.entries.specs.Reading.{readAt}
 use Rattle.feed.specs.Take.{AfterTaking, took, cameOf, takeRead, takeAt}
-use Rattle.feed.specs.declared.entry.Taken.{Taken}
-use Rattle.feed.specs.declared.entry.Taken.the-variants.{Next, Refused, All}
+use Rattle.feed.specs.declared.take.Taken.{Taken}
+use Rattle.feed.specs.declared.take.Taken.the-variants.{Next, Refused, All}
 use Rattle.entries.specs.declared.reader.Read.{Read}
 use Rattle.entries.specs.declared.reader.Read.the-variants.{Entry, Lone, End}
 use Rattle.feed.proofs.Entries.{entry-whole}

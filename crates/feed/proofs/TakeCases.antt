@@ -1,13 +1,12 @@
 -- The entry at a byte of the entries, by what is read there and what became of it. Assumes nothing.
 use Prim.Native.Nat.{ℕ, zero, suc}
-use native.Mathlib.Omega.{arith}
 use mathlib.Core.Path.{_≡_, refl, sym, ap, _∙_}
 use mathlib.Core.List.{List}
 use Rattle.books.specs.Clear.{After, after}
 use Rattle.feed.specs.Entry.{entryCall}
 use Rattle.entries.specs.Reading.{readAt}
 use Rattle.feed.specs.Take.{took, cameOf, takeRead, takeAt}
-use Rattle.feed.specs.declared.entry.Taken.the-variants.{Next, Refused}
+use Rattle.feed.specs.declared.take.Taken.the-variants.{Next, Refused}
 use Rattle.entries.specs.declared.reader.Read.{Read}
 use Rattle.entries.specs.declared.reader.Read.the-variants.{Entry}
 

@@ -3,8 +3,8 @@ use Prim.Native.Nat.{ℕ, zero, suc}
 use mathlib.Core.List.{List}
 use Rattle.books.specs.Numbers.{brokenEntry}
 use Rattle.books.specs.Clear.{After}
-use Rattle.feed.specs.declared.entry.Taken.{Taken}
-use Rattle.feed.specs.declared.entry.Taken.the-variants.{Next, Refused, All}
+use Rattle.feed.specs.declared.take.Taken.{Taken}
+use Rattle.feed.specs.declared.take.Taken.the-variants.{Next, Refused, All}
 use Rattle.entries.specs.declared.reader.Read.{Read}
 use Rattle.entries.specs.declared.reader.Read.the-variants.{Entry, Lone, End}
 use Rattle.feed.specs.Entry.{entryCall}

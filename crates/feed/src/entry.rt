@@ -4,16 +4,13 @@ use books::number::BROKEN_ENTRY;
 use books::number::DONE;
 use books::number::WRONG_SIZE;
 use entries::Entry;
-use entries::Read;
 use entries::entry_of;
-use entries::read_entry;
 use fill::copy_all;
 use records::JOURNAL_BOOK;
 use records::ROW_BOOK;
 ghost use mathlib.Core.Path.{_≡_};
 ghost use Rattle.books.specs.Clear.{after};
 ghost use Rattle.feed.specs.Entry.{openAppend, openAppendWhole, entryCall};
-ghost use Rattle.feed.specs.Take.{took, takeAt};
 
 // Opens the next journal and, where that is done, appends to it.
 fn open_append(journals: &mut [u8], rows: &mut [u8], step: u8) -> u8
@@ -63,29 +60,5 @@ pub fn enter(journals: &mut [u8], rows: &mut [u8], number: u8, step: u8) -> u8
         Entry::Append(s) => books::append(journals, rows, s),
         Entry::Open => books::open(journals, rows),
         Entry::OpenAppend(s) => open_append_whole(journals, rows, s),
-    }
-}
-
-// What came of looking for an entry: one was taken and the next stands at a byte, one was refused, or all are taken.
-pub(crate) enum Taken {
-    Next(usize),
-    Refused(u8),
-    All,
-}
-
-// Takes the entry that stands at a byte of the entries; a lone last byte is broken.
-pub(crate) fn take_at(journals: &mut [u8], rows: &mut [u8], entries: &[u8], at: usize) -> Taken
-    ensures { λ r. ⌜ took r (now (journals .exit)) (now (rows .exit)) ≡ takeAt (now (journals .entry)) (now (rows .entry)) (now (entries .entry)) at ⌝ }
-{
-    match read_entry(entries, at) {
-        Read::Entry(number, step, next) => {
-            let refused = enter(journals, rows, number, step);
-            if refused != DONE {
-                return Taken::Refused(refused);
-            }
-            Taken::Next(next)
-        }
-        Read::Lone => Taken::Refused(BROKEN_ENTRY),
-        Read::End => Taken::All,
     }
 }

@@ -2,10 +2,11 @@
 
 mod ask;
 mod entry;
+mod take;
 
 use books::number::DONE;
-use entry::Taken;
-use entry::take_at;
+use take::Taken;
+use take::take_at;
 ghost use mathlib.Core.Path.{_≡_};
 ghost use Rattle.feed.specs.Entry.{fed, feedCall};
 pub use ask::Ask;

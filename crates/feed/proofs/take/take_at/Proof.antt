@@ -1,9 +1,9 @@
--- `feed::entry::take_at` meets its contract: what is taken is what was read, and an entry that was read ends as `enter` says. Assumes nothing.
+-- `feed::take::take_at` meets its contract: what is taken is what was read, and an entry that was read ends as `enter` says. Assumes nothing.
 use mathlib.Core.Path.{sym, _∙_}
 use Rattle.feed.proofs.TakeCases.{take-read, take-refused, take-done}
 use borrow.Author.Needs.{needs}
-use Rattle.feed.proofs.entry.take_at.Statement.{statement}
-use Rattle.feed.proofs.entry.take_at.Tie as tie
+use Rattle.feed.proofs.take.take_at.Statement.{statement}
+use Rattle.feed.proofs.take.take_at.Tie as tie
 
 read-entry-requires : tie.Need-read-entry-requires
 read-entry-requires c κs = search needs
