@@ -10,8 +10,8 @@ use Rattle.records.specs.Sizes.{rowBookSize}
 use Rattle.records.specs.Bytes.{allBelow}
 use Rattle.records.specs.RowBook.{countAt}
 use Rattle.books.specs.Numbers.{done, wrongSize, wrongStep, damaged}
-use Rattle.walk.specs.Walk.{walk}
-use Rattle.walk.specs.declared.Walked.the-variants.{Row, Nowhere, Damage}
+use Rattle.rows.specs.Walk.{walk}
+use Rattle.rows.specs.declared.walk.Walked.the-variants.{Row, Nowhere, Damage}
 use Rattle.books.specs.TableCount.{counted, tableCountCall}
 use Rattle.books.specs.declared.Counted.{Counted}
 

@@ -8,9 +8,9 @@ use mathlib.Core.List.{List, [], _∷_, _++_, append-nil, List·Memᴰ}
 use lib.ListN.{length}
 use lib.Seq.{append-snoc}
 use borrow.Author.Tests.{eq-eqb, ne-eqb, lt-leb, le-ltb}
-use Rattle.walk.specs.Walk.{along, walkFrom, walk}
-use Rattle.walk.specs.declared.Walked.{Walked}
-use Rattle.walk.specs.declared.Walked.the-variants.{Row, Nowhere}
+use Rattle.rows.specs.Walk.{along, walkFrom, walk}
+use Rattle.rows.specs.declared.walk.Walked.{Walked}
+use Rattle.rows.specs.declared.walk.Walked.the-variants.{Row, Nowhere}
 use Rattle.books.specs.TableCount.{counted, tableCountCall}
 use Rattle.records.specs.RowBook.{rowBook, countAt}
 use Rattle.words.specs.Picture.{rowOf, picture}

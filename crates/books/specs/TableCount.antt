@@ -9,9 +9,9 @@ use Rattle.records.specs.Sizes.{rowBookSize}
 use Rattle.books.specs.Numbers.{Refusal, first, wrongSize, damaged, wrongStep, unless}
 use Rattle.records.specs.Bytes.{allBelow}
 use Rattle.records.specs.RowBook.{countAt}
-use Rattle.walk.specs.Walk.{walk}
-use Rattle.walk.specs.declared.Walked.{Walked}
-use Rattle.walk.specs.declared.Walked.the-variants.{Row, Nowhere, Damage}
+use Rattle.rows.specs.Walk.{walk}
+use Rattle.rows.specs.declared.walk.Walked.{Walked}
+use Rattle.rows.specs.declared.walk.Walked.the-variants.{Row, Nowhere, Damage}
 use Rattle.books.specs.declared.Counted.{Counted}
 
 abbrev pub isDamage : Walked → Bool

@@ -29,7 +29,7 @@ fn compare_rows(rows: &[u8], picture: &[u8]) -> Checked
     requires { ⌜ (length (now rows) ≡ rowBookSize) × (length (now picture) ≡ rowBookSize) ⌝ }
     ensures { λ r. ⌜ r ≡ compared (now (rows .entry)) (now (picture .entry)) ⌝ }
 {
-    let spot = difference::first_difference(rows, picture);
+    let spot = rows::first_difference(rows, picture);
     if spot.row < ROWS {
         return Checked {
             number: DAMAGED,

@@ -33,10 +33,10 @@ use records::ROW_BOOK;
 use records::ROW_RECORD;
 use records::ROWS;
 use records::WORD_RECORD;
-use row::count_at;
+use rows::Walked;
+use rows::count_at;
+use rows::walk_to;
 use size::right_sizes;
-use walk::Walked;
-use walk::walk_to;
 use words::JOURNALS;
 use words::STEP_CODES;
 use writing::write_books;
@@ -74,8 +74,8 @@ pub fn clear(journals: &mut [u8], rows: &mut [u8]) -> u8
     if !right_sizes(journals, rows) {
         return WRONG_SIZE;
     }
-    fill::zero_all(journals);
-    fill::zero_all(rows);
+    lent_bytes::zero_all(journals);
+    lent_bytes::zero_all(rows);
     DONE
 }
 
@@ -111,7 +111,7 @@ pub fn table_count(rows: &[u8], word: &[u8]) -> Counted
     if rows.len() != ROW_BOOK {
         return Counted::refused(WRONG_SIZE);
     }
-    if !fill::all_below(word, STEP_CODES) {
+    if !lent_bytes::all_below(word, STEP_CODES) {
         return Counted::refused(WRONG_STEP);
     }
     match walk_to(rows, word) {

@@ -18,6 +18,6 @@ pub(crate) fn write_books(made: &[u8], journals: &mut [u8], rows: &mut [u8]) -> 
     if ROWS < picture::draw(made, rows) {
         return ROWS_FULL;
     }
-    fill::copy_all(made, journals);
+    lent_bytes::copy_all(made, journals);
     DONE
 }

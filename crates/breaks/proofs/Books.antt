@@ -11,7 +11,7 @@ use Rattle.books.specs.Clear.{After, clearCall}
 use Rattle.books.specs.JournalCount.{journalCountCall}
 use Rattle.books.specs.Open.{openCall}
 use Rattle.books.specs.RowRecord.{rowRecordNumberCall}
-use Rattle.walk.specs.Walk.{along, walkFrom, walk}
+use Rattle.rows.specs.Walk.{along, walkFrom, walk}
 use Rattle.books.specs.TableCount.{tableCountCall}
 use Rattle.records.specs.JournalBook.{firstWrongRecord, journalForm, journalsOf, journalRecord, journalBook}
 use Rattle.records.specs.RowBook.{rowBook, rowRecord}

@@ -5,7 +5,7 @@ use books::number::DONE;
 use books::number::WRONG_SIZE;
 use entries::Entry;
 use entries::entry_of;
-use fill::copy_all;
+use lent_bytes::copy_all;
 use records::JOURNAL_BOOK;
 use records::ROW_BOOK;
 ghost use mathlib.Core.Path.{_≡_};

@@ -1,6 +1,6 @@
 // The form of bytes that hold steps, of a journal record, and of the journal book.
 
-use fill::all_below;
+use lent_bytes::all_below;
 use records::JOURNAL_RECORD;
 use words::JOURNALS;
 use words::LONGEST_JOURNAL;

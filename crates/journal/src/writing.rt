@@ -16,7 +16,7 @@ pub fn with_journal(journals: &[u8], scratch: &mut [u8])
     requires { ⌜ (journalForm (now journals) ≡ true) × (length (journalsOf (now journals)) < mostJournals) × (length (now scratch) ≡ journalBookSize) ⌝ }
     ensures { λ _. ⌜ now (scratch .exit) ≡ journalBook (opened (journalsOf (now (journals .entry)))) ⌝ }
 {
-    fill::copy_all(journals, scratch);
+    lent_bytes::copy_all(journals, scratch);
     let k = open_count(journals);
     scratch[JOURNAL_RECORD * k] = 1;
 }
@@ -26,7 +26,7 @@ pub fn with_step(journals: &[u8], scratch: &mut [u8], i: usize, step: u8)
     requires { ⌜ (journalForm (now journals) ≡ true) × (i < length (journalsOf (now journals))) × (stepsAt i (journalsOf (now journals)) < longestJournal) × (length (now scratch) ≡ journalBookSize) ⌝ }
     ensures { λ _. ⌜ now (scratch .exit) ≡ journalBook (appendedAt i step (journalsOf (now (journals .entry)))) ⌝ }
 {
-    fill::copy_all(journals, scratch);
+    lent_bytes::copy_all(journals, scratch);
     let at = JOURNAL_RECORD * i;
     let n = journals[at + 1];
     scratch[at + (2 + n as usize)] = step;

@@ -17,8 +17,8 @@ use Rattle.words.proofs.Test.{test}
 use Rattle.records.specs.RowBook.{rowRecord, placeBytes, countByte, behindCount, rowBytes, rowBook}
 use Rattle.records.proofs.Keys.{Widths, key-back, key-length, keys-ascending, row-keys}
 use Rattle.records.proofs.Flat.{flat-map}
-use Rattle.table.specs.Keys.{rankOf}
-use Rattle.table.proofs.Ranks.{rank-row}
+use Rattle.keys.specs.Keys.{rankOf}
+use Rattle.keys.proofs.Ranks.{rank-row}
 use Rattle.picture.specs.Nexts.{Tabled}
 use Rattle.picture.specs.Stepped.{steppedKey}
 use Rattle.picture.specs.KeyRow.{keyArc, keyArcs, keyRow, keyBook}

@@ -6,7 +6,7 @@ use mathlib.Core.List.{List}
 use lib.ListN.{length, take, getD}
 use Rattle.words.specs.Places.{live}
 use Rattle.words.proofs.Codes.{at-step}
-use Rattle.table.specs.Keys.{rankOf}
+use Rattle.keys.specs.Keys.{rankOf}
 use Rattle.picture.specs.Stepped.{steppedKey}
 use Rattle.picture.specs.KeyRow.{keyArc, keyArcs}
 

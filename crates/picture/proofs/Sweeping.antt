@@ -20,7 +20,7 @@ use Rattle.words.proofs.Test.{test}
 use Rattle.records.specs.Bytes.{records}
 use Rattle.records.specs.RowBook.{placeBytes}
 use Rattle.records.proofs.Keys.{key-at, key-length}
-use Rattle.table.proofs.Records.{length-records, records-at}
+use Rattle.keys.proofs.Records.{length-records, records-at}
 use Rattle.picture.specs.Nexts.{Tabled}
 use Rattle.picture.specs.Stepped.{steppedKey, withKey}
 use Rattle.picture.specs.Found.{statesIn, Sweeping, Swept, Found}

@@ -8,7 +8,7 @@ use Rattle.words.specs.Sweep.{Partial}
 use Rattle.records.specs.Sizes.{mostRows}
 use Rattle.records.specs.Bytes.{records}
 use Rattle.records.specs.RowBook.{placeBytes}
-use Rattle.table.specs.Keys.{keySize}
+use Rattle.keys.specs.Keys.{keySize}
 
 -- the table's bytes: room for one key more than there are rows
 abbrev pub tableSize : ℕ

@@ -3,7 +3,7 @@
 use crate::state::count_of;
 use crate::state::is_live;
 use crate::state::step_key;
-use row::Row;
+use rows::Row;
 use words::STEP_CODES;
 ghost use mathlib.Core.Path.{_≡_};
 ghost use Prim.Native.Nat.{_*_, _≤_, _<_};
@@ -15,7 +15,7 @@ ghost use Rattle.records.specs.Bytes.{records};
 ghost use Rattle.records.specs.RowBook.{countByte};
 ghost use Rattle.picture.specs.Nexts.{nextsOfAll};
 ghost use Rattle.picture.specs.KeyRow.{keyArc, keyArcs};
-ghost use Rattle.table.specs.Keys.{keySize};
+ghost use Rattle.keys.specs.Keys.{keySize};
 
 // The arc of a key under step s: the row number of the state that it leads to, and 0 if that isn't live.
 fn arc_of(nexts: &[u8], k: usize, t: &[u8], n: usize, key: [u8; 16], s: u8) -> u16
@@ -24,7 +24,7 @@ fn arc_of(nexts: &[u8], k: usize, t: &[u8], n: usize, key: [u8; 16], s: u8) -> u
 {
     let to = step_key(nexts, k, key, s);
     if is_live(k, to) {
-        return table::rank(t, n, to) as u16;
+        return keys::rank(t, n, to) as u16;
     }
     0
 }

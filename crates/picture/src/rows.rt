@@ -2,10 +2,10 @@
 // from the last row to the first. Arcs rise, so that the rows that an arc can lead to are written before its own.
 
 use crate::arcs::step_row;
+use keys::KEY;
 use records::ROW_RECORD;
-use row::read_row;
-use row::write_row;
-use table::KEY;
+use rows::read_row;
+use rows::write_row;
 ghost use mathlib.Core.Path.{_≡_};
 ghost use Prim.Native.Nat.{_*_, _≤_};
 ghost use lib.ListN.{length};
@@ -17,19 +17,19 @@ ghost use Rattle.records.specs.Sizes.{rowBookSize, mostRows};
 ghost use Rattle.picture.specs.KeyRow.{keyBook};
 ghost use Rattle.picture.specs.Laid.{laid};
 ghost use Rattle.picture.specs.Nexts.{nextsOfAll};
-ghost use Rattle.table.specs.Keys.{keySize};
+ghost use Rattle.keys.specs.Keys.{keySize};
 
 // Lays a record for each of the n states, with its places and nothing else, and zeros behind them.
 fn lay_rows(t: &[u8], n: usize, rows: &mut [u8])
     requires { ⌜ (keySize * n ≤ length (now t)) × (n ≤ mostRows) × (length (now rows) ≡ rowBookSize) ⌝ }
     ensures { λ _. ⌜ now (rows .exit) ≡ bookOf laid (records keySize n (now (t .entry))) ⌝ }
 {
-    fill::zero_all(rows);
+    lent_bytes::zero_all(rows);
     let mut r = n;
     while 0 < r {
         r -= 1;
-        let places = table::key_at(t, KEY * r);
-        table::put(rows, ROW_RECORD * r, places);
+        let places = keys::key_at(t, KEY * r);
+        keys::put(rows, ROW_RECORD * r, places);
     }
 }
 

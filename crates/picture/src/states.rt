@@ -3,8 +3,8 @@
 
 use crate::state::is_live;
 use crate::state::step_key;
+use keys::KEY;
 use records::ROWS;
-use table::KEY;
 use words::STEP_CODES;
 ghost use mathlib.Core.Path.{_≡_};
 ghost use Prim.Native.Nat.{_+_, _*_, _≤_, _<_};
@@ -16,7 +16,7 @@ ghost use Rattle.records.specs.Sizes.{mostRows};
 ghost use Rattle.picture.specs.Nexts.{nextsOfAll, AnyTabled};
 ghost use Rattle.picture.specs.Stepped.{steppedKey, withKey};
 ghost use Rattle.picture.specs.Found.{tableSize, Sweeping, Swept, Found};
-ghost use Rattle.table.specs.Keys.{keySize};
+ghost use Rattle.keys.specs.Keys.{keySize};
 
 // The bytes of the table: room for one key more than there are rows.
 pub(crate) const TABLE: usize = KEY * (ROWS + 1);
@@ -29,7 +29,7 @@ fn add_step(nexts: &[u8], k: usize, t: &mut [u8], n: usize, key: [u8; 16], s: u8
 {
     let to = step_key(nexts, k, key, s);
     if is_live(k, to) {
-        return table::insert(t, n, to);
+        return keys::insert(t, n, to);
     }
     n
 }
@@ -40,7 +40,7 @@ fn grow_row(nexts: &[u8], k: usize, t: &mut [u8], n: usize, i: usize) -> usize
     ensures ascending { λ r. ⌜ Ascending (records keySize r (now (t .exit))) ⌝ }
     ensures swept { λ r. ⌜ AnyTabled (now (nexts .entry)) k (λ js. Swept js (i + 1) r (now (t .exit))) ⌝ }
 {
-    let key = table::key_at(t, KEY * i);
+    let key = keys::key_at(t, KEY * i);
     let mut m = n;
     let mut s: u8 = 0;
     while s < STEP_CODES {
@@ -61,7 +61,7 @@ pub(crate) fn find_states(nexts: &[u8], k: usize, t: &mut [u8]) -> usize
     if k == 0 {
         return 0;
     }
-    table::put(t, 0, [0u8; 16]);
+    keys::put(t, 0, [0u8; 16]);
     let mut n = 1;
     let mut i = 0;
     while i < n {

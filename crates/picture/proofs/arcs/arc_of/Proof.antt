@@ -4,8 +4,8 @@ use native.Mathlib.Omega.{arith}
 use borrow.Author.Needs.{needs}
 use mathlib.Core.Path.{sym, _∙_}
 use Rattle.records.specs.Bytes.{records}
-use Rattle.table.proofs.Ranks.{rank-most}
-use Rattle.table.proofs.Records.{length-records}
+use Rattle.keys.proofs.Ranks.{rank-most}
+use Rattle.keys.proofs.Records.{length-records}
 use Rattle.picture.proofs.KeyRow.{arc-live, arc-lost}
 use Rattle.picture.proofs.arcs.arc_of.Statement.{statement}
 use Rattle.picture.proofs.arcs.arc_of.Tie as tie

@@ -9,7 +9,7 @@ use lib.ListN.{length}
 use Rattle.records.specs.Bytes.{records}
 use Rattle.records.specs.RowBook.{unused}
 use Rattle.records.proofs.Replaced.{replaced-none}
-use Rattle.table.proofs.Records.{length-records, records-wide}
+use Rattle.keys.proofs.Records.{length-records, records-wide}
 use Rattle.picture.specs.KeyRow.{keyRow}
 use Rattle.picture.specs.Laid.{laid}
 use Rattle.picture.proofs.Laid.{Sixteen}

@@ -9,7 +9,7 @@ use lib.ListN.{length, getD, replicate}
 use Rattle.records.specs.Bytes.{records}
 use Rattle.records.specs.RowBook.{unused}
 use Rattle.records.proofs.Replaced.{replaced}
-use Rattle.table.proofs.Records.{length-records, records-at, records-wide}
+use Rattle.keys.proofs.Records.{length-records, records-at, records-wide}
 use Rattle.picture.specs.Laid.{laid}
 use Rattle.picture.proofs.Laid.{blank, Sixteen, laid-start, lays}
 use Rattle.picture.proofs.rows.lay_rows.Statement.{statement}

@@ -3,7 +3,7 @@ use mathlib.Core.Path.{sym, ap, _∙_}
 use lib.ListN.{length}
 use borrow.Author.Needs.{needs}
 use Rattle.records.specs.Bytes.{records}
-use Rattle.table.proofs.Records.{length-records}
+use Rattle.keys.proofs.Records.{length-records}
 use Rattle.picture.specs.Stepped.{steppedKey}
 use Rattle.picture.proofs.Added.{goes-in, stays-out}
 use Rattle.picture.proofs.states.add_step.Statement.{statement}
