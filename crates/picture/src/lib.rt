@@ -1,15 +1,15 @@
 // The picture of the journals: the live states, found in scratch by one ascending sweep, and drawn into a row book.
 
 mod arcs;
+mod drawing;
 mod nexts;
-mod rows;
 mod state;
 mod states;
 
+use drawing::draw_rows;
 use nexts::ALL_NEXTS;
 use nexts::tabulate;
 use records::ROWS;
-use rows::draw_rows;
 use states::TABLE;
 use states::find_states;
 ghost use mathlib.Core.Path.{_≡_};

@@ -1,4 +1,4 @@
--- `picture::rows::lay_rows` meets its contract. The loop's invariant: the rows from r on are laid, those before it are zero, and the book keeps its
+-- `picture::drawing::lay_rows` meets its contract. The loop's invariant: the rows from r on are laid, those before it are zero, and the book keeps its
 -- size. The measure is r. Assumes nothing.
 use Prim.Native.Nat.{ℕ, _+_, _-_, _≤_, _<_}
 use native.Mathlib.Omega.{arith}
@@ -12,8 +12,8 @@ use Rattle.records.proofs.Replaced.{replaced}
 use Rattle.keys.proofs.Records.{length-records, records-at, records-wide}
 use Rattle.picture.specs.Laid.{laid}
 use Rattle.picture.proofs.Laid.{blank, Sixteen, laid-start, lays}
-use Rattle.picture.proofs.rows.lay_rows.Statement.{statement}
-use Rattle.picture.proofs.rows.lay_rows.Tie as tie
+use Rattle.picture.proofs.drawing.lay_rows.Statement.{statement}
+use Rattle.picture.proofs.drawing.lay_rows.Tie as tie
 
 -- the book of these keys with the rows from r on laid
 abbrev laidFrom : List (List ℕ) → ℕ → List ℕ

@@ -1,4 +1,4 @@
--- `picture::rows::draw_rows` meets its contract. The loop's invariant: the rows from i on have their arcs, those before it are laid, and the book keeps
+-- `picture::drawing::draw_rows` meets its contract. The loop's invariant: the rows from i on have their arcs, those before it are laid, and the book keeps
 -- its size. The measure is i. Assumes nothing.
 use Prim.Native.Nat.{ℕ, _+_, _-_, _≤_, _<_}
 use native.Mathlib.Omega.{arith}
@@ -14,8 +14,8 @@ use Rattle.picture.specs.KeyRow.{keyRow}
 use Rattle.picture.specs.Laid.{laid}
 use Rattle.picture.proofs.Laid.{Sixteen}
 use Rattle.picture.proofs.Linked.{linked, links}
-use Rattle.picture.proofs.rows.draw_rows.Statement.{statement}
-use Rattle.picture.proofs.rows.draw_rows.Tie as tie
+use Rattle.picture.proofs.drawing.draw_rows.Statement.{statement}
+use Rattle.picture.proofs.drawing.draw_rows.Tie as tie
 
 abbrev Inv-loop : tie.InvT-loop
 Inv-loop nexts k t n rows₀ i₀ rows i = (i ≤ n) × (length rows ≡ 64000) × (rows ≡ linked nexts k (records 16 n t) i)
