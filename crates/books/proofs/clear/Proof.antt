@@ -36,8 +36,10 @@ same-length-4 c = search needs
 returns-2 : tie.Need-returns-2
 unfolding zeros
 returns-2 c =
-    let sized = c .before .before .before .before .before .before .before .before in
-    ap₂ (after done) (c .before .before .before .before .before .before .zero-all .ensures) (c .before .before .zero-all2 .ensures) ∙ sym (clear-done _ _ (said-yes (sized .before .right-sizes .ensures) (sized .if1 .left)))
+    let rows-zeroed = c .before .before in
+    let journals-zeroed = rows-zeroed .before .before .before .before in
+    let sized = journals-zeroed .before .before in
+    ap₂ (after done) (journals-zeroed .zero-all .ensures) (rows-zeroed .zero-all2 .ensures) ∙ sym (clear-done _ _ (said-yes (sized .before .right-sizes .ensures) (sized .if1 .left)))
 
 pub clear-spec : {M : Type 1} → statement M
 clear-spec =

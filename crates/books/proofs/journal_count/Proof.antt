@@ -31,7 +31,9 @@ refused-requires-3 : tie.Need-refused-requires-3
 refused-requires-3 c κs = search needs
 
 returns-3 : tie.Need-returns-3
-returns-3 c = c .refused3 .ensures ∙ sym (word-wrong _ _ (c .before .before .before .before .if1 .left) (c .before .before .before .if2 .left) (said-no (c .before .before .steps-form .ensures) (c .before .if3 .taken)))
+returns-3 c =
+    let sized = c .before .before .before in
+    c .refused3 .ensures ∙ sym (word-wrong _ _ (sized .before .if1 .left) (sized .if2 .left) (said-no (c .before .before .steps-form .ensures) (c .before .if3 .taken)))
 
 first-wrong-record-requires : tie.Need-first-wrong-record-requires
 first-wrong-record-requires c κs = search needs
@@ -41,18 +43,27 @@ refused-requires-4 c κs = search needs
 
 returns-4 : tie.Need-returns-4
 returns-4 c =
-    let jb = c .before .before .before .before .before .before .before .before .before .args .journals .now in
-    let wrong = form-not jb (c .before .before .before .before .before .before .if1 .left) (λ e. c .before .if4 .taken (c .before .before .first-wrong-record .ensures ∙ e)) in
-    c .refused4 .ensures ∙ sym (book-wrong _ _ (c .before .before .before .before .before .before .if1 .left) (c .before .before .before .before .before .if2 .left) (said-yes (c .before .before .before .before .steps-form .ensures) (c .before .before .before .if3 .left)) wrong)
+    let worded = c .before .before .before in
+    let sized = worded .before .before in
+    let size = sized .before .if1 .left in
+    let jb = sized .before .before .before .before .args .journals .now in
+    let wrong = form-not jb size (λ e. c .before .if4 .taken (c .before .before .first-wrong-record .ensures ∙ e)) in
+    c .refused4 .ensures ∙ sym (book-wrong _ _ size (sized .if2 .left) (said-yes (worded .before .steps-form .ensures) (worded .if3 .left)) wrong)
 
 shared-slice-read-end : tie.Need-shared-slice-read-end
 shared-slice-read-end c = search needs
 
 cast-end : tie.Need-cast-end
-cast-end c = omega (arith, word-room (c .before .before .before .before .before .before .before .before .before .args .word-record .now) (said-yes (c .before .before .before .before .steps-form .ensures) (c .before .before .before .if3 .left)))
+cast-end c =
+    let worded = c .before .before .before in
+    let a = worded .before .before .before .before .before .before .args in
+    omega (arith, word-room (a .word-record .now) (said-yes (worded .before .steps-form .ensures) (worded .if3 .left)))
 
 add-end : tie.Need-add-end
-add-end c = omega (arith, word-room (c .before .before .before .before .before .before .before .before .before .args .word-record .now) (said-yes (c .before .before .before .before .steps-form .ensures) (c .before .before .before .if3 .left)))
+add-end c =
+    let worded = c .before .before .before in
+    let a = worded .before .before .before .before .before .before .args in
+    omega (arith, word-room (a .word-record .now) (said-yes (worded .before .steps-form .ensures) (worded .if3 .left)))
 
 sub-count-in : tie.Need-sub-count-in
 sub-count-in c = search needs
@@ -61,20 +72,31 @@ part-count-in-start : tie.Need-part-count-in-start
 part-count-in-start c = search needs
 
 part-count-in-end : tie.Need-part-count-in-end
-part-count-in-end c = omega (arith, word-room (c .before .before .before .before .before .before .before .before .before .args .word-record .now) (said-yes (c .before .before .before .before .steps-form .ensures) (c .before .before .before .if3 .left)))
+part-count-in-end c =
+    let worded = c .before .before .before in
+    let a = worded .before .before .before .before .before .before .args in
+    omega (arith, word-room (a .word-record .now) (said-yes (worded .before .steps-form .ensures) (worded .if3 .left)))
 
 count-in-requires : tie.Need-count-in-requires
-count-in-requires c κs = form-by (c .before .before .before .before .before .before .before .before .before .before .args .journals .now) (c .before .before .before .before .before .before .before .if1 .left) (sym (c .before .before .before .first-wrong-record .ensures) ∙ c .before .before .if4 .left)
+count-in-requires c κs =
+    let formed = c .before .before in
+    let sized = formed .before .before .before .before in
+    form-by (sized .before .before .before .before .args .journals .now) (sized .before .if1 .left) (sym (formed .before .first-wrong-record .ensures) ∙ formed .if4 .left)
 
 done-requires : tie.Need-done-requires
 done-requires c κs = search needs
 
 returns-5 : tie.Need-returns-5
 returns-5 c =
-    let jb = c .before .before .before .before .before .before .before .before .before .before .before .before .args .journals .now in
-    let r = c .before .before .before .before .before .before .before .before .before .before .before .before .args .word-record .now in
-    let right = form-by jb (c .before .before .before .before .before .before .before .before .before .if1 .left) (sym (c .before .before .before .before .before .first-wrong-record .ensures) ∙ c .before .before .before .before .if4 .left) in
-    let law = word-counted jb r (c .before .before .before .before .before .before .before .before .before .if1 .left) (c .before .before .before .before .before .before .before .before .if2 .left) (said-yes (c .before .before .before .before .before .before .before .steps-form .ensures) (c .before .before .before .before .before .before .if3 .left)) right in
+    let formed = c .before .before .before .before in
+    let worded = formed .before .before in
+    let sized = worded .before .before in
+    let a = sized .before .before .before .before .args in
+    let jb = a .journals .now in
+    let r = a .word-record .now in
+    let size = sized .before .if1 .left in
+    let right = form-by jb size (sym (formed .before .first-wrong-record .ensures) ∙ formed .if4 .left) in
+    let law = word-counted jb r size (sized .if2 .left) (said-yes (worded .before .steps-form .ensures) (worded .if3 .left)) right in
     c .done .ensures ∙ ap (counted done) (c .before .count-in .ensures ∙ ap (count (journalsOf jb)) (word-part r)) ∙ sym law
 
 pub journal-count-spec : {M : Type 1} → statement M

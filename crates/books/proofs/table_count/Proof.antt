@@ -24,7 +24,9 @@ refused-requires-2 : tie.Need-refused-requires-2
 refused-requires-2 c κs = search needs
 
 returns-2 : tie.Need-returns-2
-returns-2 c = c .refused2 .ensures ∙ sym (count-step _ _ (c .before .before .before .if1 .left) (said-no (c .before .before .all-below .ensures) (c .before .if2 .taken)))
+returns-2 c =
+    let tested = c .before .before in
+    c .refused2 .ensures ∙ sym (count-step _ _ (tested .before .if1 .left) (said-no (tested .all-below .ensures) (c .before .if2 .taken)))
 
 walk-to-requires : tie.Need-walk-to-requires
 walk-to-requires c κs = (search needs, said-yes (c .before .all-below .ensures) (c .if2 .left))
@@ -52,20 +54,27 @@ refused-requires-3 c κs = search needs
 
 returns-3 : tie.Need-returns-3
 returns-3 c =
-    let end = sym (c .before .before .before .before .before .walk-to .ensures) ∙ c .before .before .before .r .given .1 in
-    let law = count-row _ _ (c .before .before .before .before .before .before .before .before .if1 .left) (said-yes (c .before .before .before .before .before .before .before .all-below .ensures) (c .before .before .before .before .before .before .if2 .left)) _ end in
+    let met = c .before .before .before in
+    let walked = met .before .before in
+    let tested = walked .before .before in
+    let end = sym (walked .walk-to .ensures) ∙ met .r .given .1 in
+    let law = count-row _ _ (tested .before .if1 .left) (said-yes (tested .all-below .ensures) (walked .before .if2 .left)) _ end in
     c .done .ensures ∙ ap (counted done) (c .before .count-at .ensures) ∙ sym law
 
 returns-4 : tie.Need-returns-4
 returns-4 c =
-    let end = sym (c .before .before .before .walk-to .ensures) ∙ c .before .enum-told .given .1 in
-    let law = count-none _ _ (c .before .before .before .before .before .before .if1 .left) (said-yes (c .before .before .before .before .before .all-below .ensures) (c .before .before .before .before .if2 .left)) end in
+    let walked = c .before .before .before in
+    let tested = walked .before .before in
+    let end = sym (walked .walk-to .ensures) ∙ c .before .enum-told .given .1 in
+    let law = count-none _ _ (tested .before .if1 .left) (said-yes (tested .all-below .ensures) (walked .before .if2 .left)) end in
     c .done2 .ensures ∙ sym law
 
 returns-5 : tie.Need-returns-5
 returns-5 c =
-    let end = sym (c .before .before .before .walk-to .ensures) ∙ c .before .enum-told2 .given .1 in
-    let law = count-damage _ _ (c .before .before .before .before .before .before .if1 .left) (said-yes (c .before .before .before .before .before .all-below .ensures) (c .before .before .before .before .if2 .left)) end in
+    let walked = c .before .before .before in
+    let tested = walked .before .before in
+    let end = sym (walked .walk-to .ensures) ∙ c .before .enum-told2 .given .1 in
+    let law = count-damage _ _ (tested .before .if1 .left) (said-yes (tested .all-below .ensures) (walked .before .if2 .left)) end in
     c .refused3 .ensures ∙ sym law
 
 pub table-count-spec : {M : Type 1} → statement M
