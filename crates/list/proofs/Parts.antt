@@ -8,9 +8,9 @@ use mathlib.Core.List.{List, [], _∷_, _++_, map, append-assoc, List·Memᴰ, L
 use lib.ListN.{length, drop, length-take, length-drop, take-append-drop}
 use lib.Seq.{take-at, drop-at, take-all, append-snoc}
 use lib.Dec.{ltb}
-use borrow.Author.Tests.{ltb-true, ltb-false, le-ltb, eq-eqb}
-use Rattle.list.specs.ListCall.{Asked, wrongOutput, wholeList, due, fitting, listCall}
-use Rattle.list.specs.Parts.{wordsIn, lastWord, goOn, Fetched, last-part, one-part}
+use borrow.Author.Tests.{ltb-true, ltb-false, le-ltb}
+use Rattle.list.specs.ListCall.{Asked, wrongOutput, wholeList, dueIn, due, fitting, listCall}
+use Rattle.list.specs.Parts.{wordsIn, lastWord, goOn, partAsked, part, joined, Fetched}
 use Rattle.records.specs.Bytes.{records, flat}
 use Rattle.records.specs.Sizes.{wordRecordSize, longestWord}
 use Rattle.records.specs.WordRecord.{wordOf, wordRecord}
@@ -18,6 +18,7 @@ use Rattle.words.specs.Listing.{past}
 use Rattle.words.specs.Words.{IsWord}
 use Rattle.list.proofs.Complete.{Admitted, list-complete, list-in-order}
 use Rattle.list.proofs.ListCases.{Allowed, allowed}
+use Rattle.list.proofs.Numbers.{list-accepts}
 use Rattle.records.proofs.StepBytes.{steps-back, step-bytes-length, step-bytes-form}
 use Rattle.words.proofs.Past.{past-suffix, past-at}
 use Rattle.words.proofs.Test.{test}
@@ -83,18 +84,17 @@ next-due a out e m =
     rw (page a e, steps-back longestWord (lastWord (fitting a)))
     (past-last a (fitting a) (drop (room a) (due a)) (take-append-drop (room a) (due a)) (filled a e m))
 
--- the parts joined are what was due
-pub parts-due : {a : Asked} {ws : List (List ℕ)} → Fetched a ws → ws ≡ due a
-parts-due (last-part {a} e m) =
+-- a part and what the next one is asked for are what was due
+part-and-rest : (a : Asked) (out : List ℕ) → listCall a .answer .number ≡ 0 → listCall a .answer .more ≡ true
+    → wordsIn (listCall a) ++ due (goOn a (lastWord (wordsIn (listCall a))) out) ≡ due a
+part-and-rest a out e m = ap₂ (λ (u v : List (List ℕ)). u ++ v) (page a e) (next-due a out e m) ∙ take-append-drop (room a) (due a)
+
+-- a part after which none remains is all that was due
+whole-part : (a : Asked) → listCall a .answer .number ≡ 0 → listCall a .answer .more ≡ false → wordsIn (listCall a) ≡ due a
+whole-part a e m =
     page a e ∙ take-all (room a) (due a) (omega (arith, length-take (room a) (due a), ltb-false (length (fitting a)) (length (due a)) (remains a false e m)))
-parts-due (one-part {a} {out} e m f) =
-    ap₂ (λ (u v : List (List ℕ)). u ++ v) (page a e) (parts-due f ∙ next-due a out e m) ∙ take-append-drop (room a) (due a)
 
--- fetched from the start, they are the whole list
-pub parts : {a : Asked} {ws : List (List ℕ)} → a .after ≡ false → Fetched a ws → ws ≡ wholeList a
-parts h f = rw h at (parts-due f)
-
--- every part that leaves a word brings one, so fetching ends
+-- every part that leaves a word brings one, so less is due for the next
 pub parts-end : (a : Asked) (out : List ℕ) → listCall a .answer .number ≡ 0 → listCall a .answer .more ≡ true
     → length (due (goOn a (lastWord (wordsIn (listCall a))) out)) < length (due a)
 parts-end a out e m = rw (next-due a out e m) (omega (arith, filled a e m, length-take (room a) (due a), length-drop (room a) (due a)))
@@ -108,10 +108,10 @@ last-mem (w ∷ v ∷ ws) h = List·Memᴰ·tail (last-mem (v ∷ ws) (omega ari
 -- going on after a word within the length isn't refused
 go-on-number : (a : Asked) (w out : List ℕ) → Allowed a → IsWord w → length w ≤ a .length-limit → wrongOutput out ≡ false
     → listCall (goOn a w out) .answer .number ≡ 0
-unfolding listCall
 go-on-number a w out al k h o =
     let l : length w ≤ longestWord = omega (arith, al .limit) in
-    rw (al .sizes, eq-eqb (length (wordRecord w)) wordRecordSize (step-bytes-length longestWord w l), o, al .right, le-ltb longestWord (a .length-limit) (al .limit), al .quorum, step-bytes-form longestWord longestWord w k l, steps-back longestWord w, le-ltb (a .length-limit) (length w) h)
+    list-accepts (goOn a w out) (al .sizes) (step-bytes-length longestWord w l) o (al .right) (al .limit) (al .quorum)
+    (rw (step-bytes-form longestWord longestWord w k l, steps-back longestWord w, le-ltb (a .length-limit) (length w) h))
 
 -- the next part isn't refused, whatever output of a right size it is given
 pub goes-on : (a : Asked) (out : List ℕ) → wrongOutput out ≡ false → listCall a .answer .number ≡ 0 → listCall a .answer .more ≡ true
@@ -120,14 +120,59 @@ goes-on a out o e m =
     let s = listed a (lastWord (fitting a)) (last-mem (fitting a) (filled a e m)) in
     rw (page a e) (go-on-number a (lastWord (fitting a)) out (allowed a e) (s .word) (s .short) o)
 
--- so the list can be fetched, part after part, into any output of a right size
-pub fetchable : (a : Asked) (out : List ℕ) → wrongOutput out ≡ false → listCall a .answer .number ≡ 0 → (ws : List (List ℕ)) × Fetched a ws
-fetchable a out o e = from (length (due a)) a (omega arith) e
-  where
-    from : (n : ℕ) (a : Asked) → length (due a) ≤ n → listCall a .answer .number ≡ 0 → (ws : List (List ℕ)) × Fetched a ws
-    from zero a h e = test (listCall a .answer .more) (λ m. absurd (omega (arith, parts-end a out e m))) (λ m. (wordsIn (listCall a), last-part e m))
-    from (suc n) a h e =
-        test (listCall a .answer .more)
-        (λ m. let r = from n (goOn a (lastWord (wordsIn (listCall a))) out) (omega (arith, parts-end a out e m)) (goes-on a out o e m) in
-        (wordsIn (listCall a) ++ r .0, one-part {out = out} e m (r .1)))
-        (λ m. (wordsIn (listCall a), last-part e m))
+-- what holds below i and at i holds below i + 1
+up-to : (f : ℕ → Bool) (i : ℕ) → ((k : ℕ) → k < i → f k ≡ true) → f i ≡ true → (k : ℕ) → k < suc i → f k ≡ true
+up-to f i h t k b =
+    test (ltb k i) (λ y. h k (ltb-true k i y)) (λ n. let e : k ≡ i = omega (arith, ltb-false k i n) in rw e t)
+
+module _ (a : Asked) (outs : ℕ → List ℕ) where
+  -- a further word remains after each of the first i parts
+  abbrev Going : ℕ → Type 0
+  Going i = (k : ℕ) → k < i → part a outs k .answer .more ≡ true
+
+  -- the words of the first i parts, and what part i is asked for, are what was due
+  joined-due : (i : ℕ) → ((k : ℕ) → k < i → part a outs k .answer .number ≡ 0) → Going i → joined a outs i ++ due (partAsked a outs i) ≡ due a
+  unfolding partAsked
+  joined-due zero d m = refl
+  joined-due (suc i) d m =
+      append-assoc (joined a outs i) (wordsIn (part a outs i)) (due (partAsked a outs (suc i)))
+      ∙ ap (λ (u : List (List ℕ)). joined a outs i ++ u) (part-and-rest (partAsked a outs i) (outs (suc i)) (d i (omega arith)) (m i (omega arith)))
+      ∙ joined-due i (λ k h. d k (omega arith)) (λ k h. m k (omega arith))
+
+  -- the parts joined are what was due
+  pub parts-due : {n : ℕ} → Fetched a outs n → joined a outs (suc n) ≡ due a
+  parts-due {n} f =
+      ap (λ (u : List (List ℕ)). joined a outs n ++ u) (whole-part (partAsked a outs n) (f .all-done n (omega arith)) (f .ended))
+      ∙ joined-due n (λ k h. f .all-done k (omega arith)) (f .go-on)
+
+  -- fetched from the start, they are the whole list
+  pub parts : {n : ℕ} → a .after ≡ false → Fetched a outs n → joined a outs (suc n) ≡ wholeList a
+  parts h f = parts-due f ∙ ap (λ (after : Bool). dueIn (wholeList a) after (a .word)) h
+
+  module _ (o : (i : ℕ) → wrongOutput (outs i) ≡ false) (e : listCall a .answer .number ≡ 0) where
+    -- no part is refused while a word remains
+    part-done : (i : ℕ) → Going i → part a outs i .answer .number ≡ 0
+    unfolding partAsked
+    part-done zero m = e
+    part-done (suc i) m =
+        goes-on (partAsked a outs i) (outs (suc i)) (o (suc i)) (part-done i (λ k h. m k (omega arith))) (m i (omega arith))
+
+    -- less is due for the next part
+    part-less : (i : ℕ) → Going i → part a outs i .answer .more ≡ true → length (due (partAsked a outs (suc i))) < length (due (partAsked a outs i))
+    unfolding partAsked
+    part-less i m t = parts-end (partAsked a outs i) (outs (suc i)) (part-done i m) t
+
+    stop : (i : ℕ) → Going i → part a outs i .answer .more ≡ false → (last : ℕ) × Fetched a outs last
+    stop i m f = (i, record { all-done = λ k h. part-done k (λ l b. m l (omega arith)); go-on = m; ended = f })
+
+    from : (n i : ℕ) → length (due (partAsked a outs i)) ≤ n → Going i → (last : ℕ) × Fetched a outs last
+    from zero i h m = test (part a outs i .answer .more) (λ t. absurd (omega (arith, part-less i m t))) (stop i m)
+    from (suc n) i h m =
+        test (part a outs i .answer .more)
+        (λ t. from n (suc i) (omega (arith, part-less i m t)) (up-to (λ k. part a outs k .answer .more) i m t))
+        (stop i m)
+
+    -- so the list is fetched, part after part, into any outputs of right sizes, and fetching ends
+    pub fetchable : (last : ℕ) × Fetched a outs last
+    unfolding partAsked
+    fetchable = from (length (due a)) 0 (omega arith) (λ k h. absurd (omega arith))

@@ -1,5 +1,5 @@
 -- Fetching the list in parts. Assumes nothing.
-use Prim.Native.Nat.{ℕ}
+use Prim.Native.Nat.{ℕ, zero, suc, _≤_, _<_}
 use mathlib.Core.Path.{_≡_}
 use mathlib.Core.Bool.{true, false}
 use mathlib.Core.List.{List, [], _∷_, _++_, map}
@@ -30,9 +30,23 @@ goOn a w out = record {
   out = out;
 }
 
--- Fetched a ws: ws are the words of the parts joined, the first part fetched by the call a, each further one after the
--- last word of the one before, into outputs of any size, until none remains.
-pub data Fetched : Asked → List (List ℕ) → Type 0 where
-  last-part : {a : Asked} → listCall a .answer .number ≡ done → listCall a .answer .more ≡ false → Fetched a (wordsIn (listCall a))
-  one-part : {a : Asked} {out : List ℕ} {ws : List (List ℕ)} → listCall a .answer .number ≡ done → listCall a .answer .more ≡ true
-      → Fetched (goOn a (lastWord (wordsIn (listCall a))) out) ws → Fetched a (wordsIn (listCall a) ++ ws)
+-- The calls that fetch the list in parts, each into an output of its own: part 0 by the call a itself, each further part
+-- after the last word of the part before.
+unfoldable pub partAsked : Asked → (ℕ → List ℕ) → ℕ → Asked
+partAsked a outs zero = a
+partAsked a outs (suc i) = let b : Asked = partAsked a outs i in goOn b (lastWord (wordsIn (listCall b))) (outs (suc i))
+
+-- what the call for part i answers and writes
+abbrev pub part : Asked → (ℕ → List ℕ) → ℕ → Wrote
+part a outs i = listCall (partAsked a outs i)
+
+-- the words of the first i parts, joined
+abbrev pub joined : Asked → (ℕ → List ℕ) → ℕ → List (List ℕ)
+joined a outs zero = []
+joined a outs (suc i) = joined a outs i ++ wordsIn (part a outs i)
+
+-- Parts 0 to `last` are all of them: each call is done, and a further word remains after each part but the last.
+pub record Fetched (a : Asked) (outs : ℕ → List ℕ) (last : ℕ) : Type 0 where
+  pub all-done : (i : ℕ) → i ≤ last → part a outs i .answer .number ≡ done
+  pub go-on : (i : ℕ) → i < last → part a outs i .answer .more ≡ true
+  pub ended : part a outs last .answer .more ≡ false
