@@ -1,1 +1,1 @@
-// Theorems alone, in proofs/: the wrong versions that document 01 names break a promise of the books or of the list.
+// Theorems alone, in proofs/: the wrong versions that document 01 names break a promise of the books.

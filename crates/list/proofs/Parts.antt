@@ -32,7 +32,7 @@ due-suffix : (a : Asked) → (front : List (List ℕ)) × (wholeList a ≡ front
 due-suffix a = test (a .after) (λ t. rw t (past-suffix (wordOf (a .word)) (wholeList a) (list-in-order a))) (λ f. rw f ([], refl))
 
 -- each word of a part belongs in the list
-listed : (a : Asked) (w : List ℕ) → List·Memᴰ w (fitting a) → Admitted a w
+pub listed : (a : Asked) (w : List ℕ) → List·Memᴰ w (fitting a) → Admitted a w
 listed a w m =
     let s = due-suffix a in
     let d : List·Memᴰ w (due a) = rw (take-append-drop (room a) (due a)) at (Memᴰ·append-left (drop (room a) (due a)) m) in
