@@ -9,7 +9,7 @@ use mathlib.Core.List.{List, [], _∷_, _++_, List·Memᴰ, List·Memᴰ·not-ni
 use lib.ListN.{length, take, drop, getD}
 use Rattle.words.specs.Order.{before, Ascending}
 use Rattle.words.specs.Picture.{insert, rowOf}
-use Rattle.words.proofs.Order.{before-irrefl, before-trans, before-asym, before-total}
+use Rattle.words.proofs.Order.{before-irrefl, before-trans, before-asym}
 use Rattle.words.proofs.Rows.{row-head, row-tail, at-mem}
 use Rattle.words.proofs.Test.{test}
 use Rattle.keys.specs.Keys.{rankOf}
@@ -43,27 +43,22 @@ rank-above key (x ∷ l) (suc i) h a t =
     let first = before-trans x (getD l i []) key (a .0 (getD l i []) (at-mem l i (omega arith))) t in
     omega (arith, rank-pass key x l first, rank-above key l i (omega arith) (a .1) t)
 
--- a key that isn't there goes in behind as many keys as its rank says
-pub insert-new : (key : List ℕ) (l : List (List ℕ)) (r : ℕ) → r ≡ rankOf key l → (r < length l → getD l r [] ≡ key → ⊥)
+-- a key goes in behind as many keys as its rank says, if it comes before the next one
+pub insert-new : (key : List ℕ) (l : List (List ℕ)) (r : ℕ) → r ≡ rankOf key l → (r < length l → before key (getD l r []) ≡ true)
     → insert key l ≡ take r l ++ key ∷ drop r l
 insert-new key [] zero e n = refl
 insert-new key [] (suc r) e n = absurd (omega (arith, rank-most key []))
-insert-new key (x ∷ l) zero e n =
-    test (before x key) (λ t. absurd (omega (arith, rank-pass key x l t)))
-    (λ f. test (before key x) (λ t. rw t) (λ g. absurd (n (omega arith) (before-total x key f g))))
+insert-new key (x ∷ l) zero e n = rw (n (omega arith))
 insert-new key (x ∷ l) (suc r) e n =
     test (before x key)
     (λ t. rw (before-asym x key t, t)
-    (ap (λ (m : List (List ℕ)). x ∷ m) (insert-new key l r (omega (arith, rank-pass key x l t)) (λ h k. n (omega arith) k))))
+    (ap (λ (m : List (List ℕ)). x ∷ m) (insert-new key l r (omega (arith, rank-pass key x l t)) (λ h. n (omega arith)))))
     (λ f. absurd (omega (arith, rank-stop key x l f)))
 
--- a key that is there stays as it is
-pub insert-old : (key : List ℕ) (l : List (List ℕ)) (r : ℕ) → r ≡ rankOf key l → r < length l → getD l r [] ≡ key → insert key l ≡ l
+-- if it doesn't, it is there, and the keys stay
+pub insert-old : (key : List ℕ) (l : List (List ℕ)) (r : ℕ) → r ≡ rankOf key l → r < length l → before key (getD l r []) ≡ false → insert key l ≡ l
 insert-old key [] r e h k = absurd (omega arith)
-insert-old key (x ∷ l) zero e h k =
-    let f : before x key ≡ false = rw k (before-irrefl key) in
-    let g : before key x ≡ false = rw k (before-irrefl key) in
-    rw (g, f)
+insert-old key (x ∷ l) zero e h k = test (before x key) (λ t. absurd (omega (arith, rank-pass key x l t))) (λ f. rw (k, f))
 insert-old key (x ∷ l) (suc r) e h k =
     test (before x key)
     (λ t. rw (before-asym x key t, t)

@@ -9,7 +9,7 @@ use mathlib.Core.List.{List, _∷_, _++_, append-assoc}
 use lib.ListN.{length, take, drop, getD, set, length-drop, take-append-drop, List·getD-append}
 use lib.Seq.{getD-take, take-all, drop-cons, take-suc, set-at, drop-drop, take-add, drop-at, append-snoc, length-take-le, take-append-le, take-take, paste}
 use Rattle.records.specs.Bytes.{records}
-use Rattle.keys.specs.Keys.{shifted}
+use Rattle.keys.specs.Keys.{keysIn, shifted}
 use Rattle.keys.proofs.Records.{records-cons, records-front}
 
 -- before the loop nothing is shifted
@@ -72,6 +72,7 @@ opened-records (suc n) (suc p) t key h k s =
 
 -- the keys after the shift and the put
 pub opened-keys : (n p : ℕ) (t key : List ℕ) → p ≤ n → 16 * n + 16 ≤ length t → length key ≡ 16
-    → records 16 (n + 1) (paste (shifted t (16 * p) (16 * n)) (16 * p) key 16) ≡ take p (records 16 n t) ++ key ∷ drop p (records 16 n t)
+    → keysIn (n + 1) (paste (shifted t (16 * p) (16 * n)) (16 * p) key 16) ≡ take p (keysIn n t) ++ key ∷ drop p (keysIn n t)
+unfolding keysIn
 opened-keys n p t key h k s =
     rw (add-one, paste-shifted t (16 * p) (16 * n) key (omega arith) (omega arith) s) (opened-records n p t key h (omega arith) s)

@@ -1,7 +1,9 @@
-// Lent bytes: filled with zeros or with other bytes, and tested.
+// Lent bytes: filled with zeros or with other bytes, tested, and sixteen of them read into an array or written from one.
 
 ghost use mathlib.Core.Path.{_≡_};
-ghost use lib.ListN.{length, replicate};
+ghost use Prim.Native.Nat.{_+_, _≤_};
+ghost use lib.ListN.{length, take, drop, replicate};
+ghost use lib.Seq.{paste};
 ghost use Rattle.records.specs.Bytes.{allBelow};
 
 // Makes every byte zero.
@@ -39,4 +41,30 @@ pub fn all_below(b: &[u8], limit: u8) -> bool
         i += 1;
     }
     true
+}
+
+// The sixteen bytes from a byte on.
+pub fn sixteen_at(b: &[u8], at: usize) -> [u8; 16]
+    requires { ⌜ at + 16 ≤ length (now b) ⌝ }
+    ensures { λ r. ⌜ r ≡ take 16 (drop at (now (b .entry))) ⌝ }
+{
+    let mut found = [0u8; 16];
+    let mut i = 0;
+    while i < 16 {
+        found[i] = b[at + i];
+        i += 1;
+    }
+    found
+}
+
+// Writes sixteen bytes from a byte on.
+pub fn put_sixteen(b: &mut [u8], at: usize, source: [u8; 16])
+    requires { ⌜ at + 16 ≤ length (now b) ⌝ }
+    ensures { λ _. ⌜ now (b .exit) ≡ paste (now (b .entry)) at source 16 ⌝ }
+{
+    let mut i = 0;
+    while i < 16 {
+        b[at + i] = source[i];
+        i += 1;
+    }
 }

@@ -1,4 +1,4 @@
--- The rows drawn from the table of keys are those of the picture: a key stepped is the key of the state stepped, and the rank of a row's key among
+-- The rows drawn from the keys are those of the picture: a key stepped is the key of the state stepped, and the rank of a row's key among
 -- the rows' keys, which ascend as the rows do, is the row's number. So the records made of the keys are the picture's. Assumes nothing.
 use Prim.Native.Nat.{ℕ, zero, suc, _+_, _≤_, _<_}
 use native.Mathlib.Omega.{arith}

@@ -1,15 +1,14 @@
 -- The sweep on keys. A turn that puts in the key that a step leads to from row i is a step of the sweep on states: the keys stand for the states in their
 -- order, and what goes in stands after row i, so that row i keeps its key. Assumes nothing.
-use Prim.Native.Nat.{ℕ, zero, suc, _+_, _*_, _-_, _≤_, _<_}
+use Prim.Native.Nat.{ℕ, zero, suc, _+_, _-_, _≤_, _<_}
 use native.Mathlib.Numerals.{add-one}
 use native.Mathlib.Omega.{arith}
 use mathlib.Core.Path.{_≡_, refl, sym, ap, ap₂, _∙_}
 use mathlib.Core.List.{List, [], _∷_, _++_, map, List·Memᴰ·not-nil}
-use lib.ListN.{length, take, drop, getD, replicate, length-map}
-use lib.Seq.{paste}
+use lib.ListN.{length, take, getD, replicate, length-map}
 use Rattle.words.specs.Order.{Ascending}
 use Rattle.words.specs.Places.{state, step, live}
-use Rattle.words.specs.Picture.{keep, picture}
+use Rattle.words.specs.Picture.{insert, keep, picture}
 use Rattle.words.specs.Sweep.{Partial}
 use Rattle.words.specs.Words.{AreJournals}
 use Rattle.words.proofs.Place.{Short, short}
@@ -17,10 +16,10 @@ use Rattle.words.proofs.Rows.{at-mem, live-after}
 use Rattle.words.proofs.Steps.{step-length}
 use Rattle.words.proofs.Sweep.{sweep-start, partial-width, dead-step, live-step, too-many, row-done, all-done, insert-keeps}
 use Rattle.words.proofs.Test.{test}
-use Rattle.records.specs.Bytes.{records}
 use Rattle.records.specs.RowBook.{placeBytes}
 use Rattle.records.proofs.Keys.{key-at, key-length}
-use Rattle.keys.proofs.Records.{length-records, records-at}
+use Rattle.keys.specs.Keys.{keysIn}
+use Rattle.keys.proofs.Held.{no-keys, length-keys}
 use Rattle.picture.specs.Nexts.{Tabled}
 use Rattle.picture.specs.Stepped.{steppedKey, withKey}
 use Rattle.picture.specs.Found.{statesIn, Sweeping, Swept, Found}
@@ -43,16 +42,16 @@ module _ (js : List (List ℕ)) (are : AreJournals js) where
   limits = short js (are .each)
 
   how-many : (n : ℕ) (t : List ℕ) → length (statesIn (length js) n t) ≡ n
-  how-many n t = length-map (records 16 n t) (take (length js)) ∙ length-records 16 n t
+  how-many n t = length-map (keysIn n t) (take (length js)) ∙ length-keys n t
 
   module _ (i s n : ℕ) (t : List ℕ) (w : Sweeping js i s n t) where
     -- row i, with its key
-    pub row-begins : i < n → Growing js i s (take 16 (drop (16 * i) t)) n t
-    row-begins h =
+    pub row-begins : i < n → {key : List ℕ} → key ≡ getD (keysIn n t) i [] → Growing js i s key n t
+    row-begins h read =
         record {
           sweeping = w;
           row = h;
-          of-row = sym (records-at 16 n t i h) ∙ ap (λ (x : List (List ℕ)). getD x i []) (w .keys) ∙ key-at (statesIn (length js) n t) i [] (omega (arith, how-many n t));
+          of-row = read ∙ ap (λ (x : List (List ℕ)). getD x i []) (w .keys) ∙ key-at (statesIn (length js) n t) i [] (omega (arith, how-many n t));
         }
 
   module _ (nexts : List ℕ) (tabled : Tabled js nexts) (i s n : ℕ) (key t : List ℕ) (g : Growing js i s key n t) (small : s < 16) where
@@ -83,7 +82,7 @@ module _ (js : List (List ℕ)) (are : AreJournals js) where
         stepped-key js are nexts tabled key s (omega (arith, long, are .few)) small
         ∙ ap (λ (a : List ℕ). placeBytes (step js a s)) (ap (take (length js)) (g .of-row) ∙ state-back (length js) from width)
 
-    keys-after : withKey (length js) (steppedKey nexts (length js) key s) (records 16 n t) ≡ map placeBytes (keep q l)
+    keys-after : withKey (length js) (steppedKey nexts (length js) key s) (keysIn n t) ≡ map placeBytes (keep q l)
     keys-after =
         ap₂ (λ (x : List ℕ) (y : List (List ℕ)). withKey (length js) x y) stepped (g .sweeping .keys)
         ∙ with-keys (length js) q l (step-length js from s width) (partial-width js limits i s l partial)
@@ -99,9 +98,9 @@ module _ (js : List (List ℕ)) (are : AreJournals js) where
         (λ f. rw f)
 
     -- after the key is put in
-    module _ (k : ℕ) (e : k ≡ length js) (m : ℕ) (u : List ℕ) (after : records 16 m u ≡ withKey k (steppedKey nexts k key s) (records 16 n t)) where
-      keys-are : records 16 m u ≡ map placeBytes (keep q l)
-      keys-are = after ∙ ap (λ (x : ℕ). withKey x (steppedKey nexts x key s) (records 16 n t)) e ∙ keys-after
+    module _ (k : ℕ) (e : k ≡ length js) (m : ℕ) (u : List ℕ) (after : keysIn m u ≡ withKey k (steppedKey nexts k key s) (keysIn n t)) where
+      keys-are : keysIn m u ≡ map placeBytes (keep q l)
+      keys-are = after ∙ ap (λ (x : ℕ). withKey x (steppedKey nexts x key s) (keysIn n t)) e ∙ keys-after
 
       states-are : statesIn (length js) m u ≡ keep q l
       states-are =
@@ -152,25 +151,31 @@ start-key (j ∷ js) (suc m) h =
     let e : suc m - suc (length (state js [])) ≡ m - length (state js []) = omega arith in
     rw e (ap (λ (x : List ℕ). 0 ∷ x) (start-key js m (omega arith)))
 
--- one key ascends
-pub one-ascending : (t : List ℕ) → Ascending (records 16 1 t)
-one-ascending t = (λ b m. absurd (List·Memᴰ·not-nil m), tt)
+-- a key put among none
+pub first-key : (key t : List ℕ) → insert key (keysIn 0 t) ≡ key ∷ []
+first-key key t = rw (no-keys t)
 
--- the first key is that of the empty word's state
-pub sweep-begins : (js : List (List ℕ)) → AreJournals js → (length js ≡ 0 → ⊥) → (t u : List ℕ) → u ≡ paste t 0 (replicate 16 0) 16 → Sweeping js 0 0 1 u
-sweep-begins [] are n t u e = absurd (n refl)
-sweep-begins (j ∷ js) are n t u e =
-    let first : records 16 1 u ≡ replicate 16 0 ∷ [] = ap (records 16 1) e in
-    let states : statesIn (suc (length js)) 1 u ≡ state (j ∷ js) [] ∷ [] =
-    ap (map (take (suc (length js)))) first ∙ ap (λ (x : List ℕ). x ∷ []) (start-state (j ∷ js) 16 (are .few)) in
-    record {
-      room = omega arith;
-      partial = rw states (sweep-start j js);
-      keys = first ∙ ap (λ (x : List ℕ). x ∷ []) (start-key (j ∷ js) 16 (are .few)) ∙ ap (map placeBytes) (sym states);
-    }
+-- The first key is that of the empty word's state.
+module _ (n : ℕ) (t : List ℕ) (first : keysIn n t ≡ replicate 16 0 ∷ []) where
+  pub one-key : n ≡ 1
+  one-key = sym (length-keys n t) ∙ ap length first
+
+  pub one-ascending : Ascending (keysIn n t)
+  one-ascending = rw first (λ b m. absurd (List·Memᴰ·not-nil m), tt)
+
+  pub sweep-begins : (js : List (List ℕ)) → AreJournals js → (length js ≡ 0 → ⊥) → Sweeping js 0 0 n t
+  sweep-begins [] are some = absurd (some refl)
+  sweep-begins (j ∷ js) are some =
+      let states : statesIn (suc (length js)) n t ≡ state (j ∷ js) [] ∷ [] =
+      ap (map (take (suc (length js)))) first ∙ ap (λ (x : List ℕ). x ∷ []) (start-state (j ∷ js) 16 (are .few)) in
+      record {
+        room = omega (arith, one-key);
+        partial = rw states (sweep-start j js);
+        keys = first ∙ ap (λ (x : List ℕ). x ∷ []) (start-key (j ∷ js) 16 (are .few)) ∙ ap (map placeBytes) (sym states);
+      }
 
 -- no journals have no live state
 pub none-found : (js : List (List ℕ)) (t : List ℕ) → length js ≡ 0 → Found js 0 t
 unfolding picture
-none-found [] t e = record { few = λ h. (refl, refl); most = λ h. absurd (omega arith) }
+none-found [] t e = record { few = λ h. (refl, no-keys t); most = λ h. absurd (omega arith) }
 none-found (j ∷ js) t e = absurd (omega arith)

@@ -7,10 +7,10 @@ mod state;
 mod states;
 
 use drawing::draw_rows;
+use keys::KEYS_ROOM;
 use nexts::ALL_NEXTS;
 use nexts::tabulate;
 use records::ROWS;
-use states::TABLE;
 use states::find_states;
 ghost use mathlib.Core.Path.{_≡_};
 ghost use mathlib.Core.Bool.{true};
@@ -28,11 +28,11 @@ pub fn draw(journals: &[u8], rows: &mut [u8]) -> usize
     let k = journal::open_count(journals);
     let mut nexts = [0u8; ALL_NEXTS];
     tabulate(journals, k, &mut nexts);
-    let mut table = [0u8; TABLE];
-    let n = find_states(&nexts, k, &mut table);
+    let mut held = [0u8; KEYS_ROOM];
+    let n = find_states(&nexts, k, &mut held);
     if ROWS < n {
         return n;
     }
-    draw_rows(&nexts, k, &table, n, rows);
+    draw_rows(&nexts, k, &held, n, rows);
     n
 }

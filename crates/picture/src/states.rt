@@ -1,31 +1,26 @@
-// The search for the live states: a sorted table, swept once in ascending order. A live state that a step leads to stands
+// The search for the live states: their sorted keys, swept once in ascending order. A live state that a step leads to stands
 // after the state that it comes from, so that the sweep meets it later.
 
 use crate::state::is_live;
 use crate::state::step_key;
-use keys::KEY;
 use records::ROWS;
 use words::STEP_CODES;
 ghost use mathlib.Core.Path.{_≡_};
-ghost use Prim.Native.Nat.{_+_, _*_, _≤_, _<_};
+ghost use Prim.Native.Nat.{_+_, _≤_, _<_};
 ghost use lib.ListN.{length};
 ghost use Rattle.words.specs.Order.{Ascending};
-ghost use Rattle.records.specs.Bytes.{records};
 ghost use Rattle.words.specs.Limits.{stepCodes, mostJournals};
 ghost use Rattle.records.specs.Sizes.{mostRows};
 ghost use Rattle.picture.specs.Nexts.{nextsOfAll, AnyTabled};
 ghost use Rattle.picture.specs.Stepped.{steppedKey, withKey};
-ghost use Rattle.picture.specs.Found.{tableSize, Sweeping, Swept, Found};
-ghost use Rattle.keys.specs.Keys.{keySize};
+ghost use Rattle.picture.specs.Found.{Sweeping, Swept, Found};
+ghost use Rattle.keys.specs.Keys.{keysRoom, keysIn};
 
-// The bytes of the table: room for one key more than there are rows.
-pub(crate) const TABLE: usize = KEY * (ROWS + 1);
-
-// Puts the state that the step s leads to from a key into the table, if it is live. Returns how many keys there are then.
+// Puts the state that the step s leads to from a key among the keys, if it is live. Returns how many keys there are then.
 fn add_step(nexts: &[u8], k: usize, t: &mut [u8], n: usize, key: [u8; 16], s: u8) -> usize
-    requires { ⌜ (length (now nexts) ≡ nextsOfAll) × (k ≤ mostJournals) × (s < stepCodes) × (keySize * n + keySize ≤ length (now t)) × (n ≤ mostRows) × Ascending (records keySize n (now t)) ⌝ }
-    ensures after { λ r. ⌜ records keySize r (now (t .exit)) ≡ withKey k (steppedKey (now (nexts .entry)) k key s) (records keySize n (now (t .entry))) ⌝ }
-    ensures many { λ r. ⌜ r ≡ length (withKey k (steppedKey (now (nexts .entry)) k key s) (records keySize n (now (t .entry)))) ⌝ }
+    requires { ⌜ (length (now nexts) ≡ nextsOfAll) × (k ≤ mostJournals) × (s < stepCodes) × (length (now t) ≡ keysRoom) × (n ≤ mostRows) × Ascending (keysIn n (now t)) ⌝ }
+    ensures after { λ r. ⌜ keysIn r (now (t .exit)) ≡ withKey k (steppedKey (now (nexts .entry)) k key s) (keysIn n (now (t .entry))) ⌝ }
+    ensures many { λ r. ⌜ r ≡ length (withKey k (steppedKey (now (nexts .entry)) k key s) (keysIn n (now (t .entry)))) ⌝ }
 {
     let to = step_key(nexts, k, key, s);
     if is_live(k, to) {
@@ -36,11 +31,11 @@ fn add_step(nexts: &[u8], k: usize, t: &mut [u8], n: usize, key: [u8; 16], s: u8
 
 // Puts in all live states that lead on from row i. Returns how many keys there are then, 1,001 if they are too many.
 fn grow_row(nexts: &[u8], k: usize, t: &mut [u8], n: usize, i: usize) -> usize
-    requires { ⌜ (length (now nexts) ≡ nextsOfAll) × (k ≤ mostJournals) × (length (now t) ≡ tableSize) × (i < n) × (n ≤ mostRows) × Ascending (records keySize n (now t)) × AnyTabled (now nexts) k (λ js. Sweeping js i 0 n (now t)) ⌝ }
-    ensures ascending { λ r. ⌜ Ascending (records keySize r (now (t .exit))) ⌝ }
+    requires { ⌜ (length (now nexts) ≡ nextsOfAll) × (k ≤ mostJournals) × (length (now t) ≡ keysRoom) × (i < n) × (n ≤ mostRows) × Ascending (keysIn n (now t)) × AnyTabled (now nexts) k (λ js. Sweeping js i 0 n (now t)) ⌝ }
+    ensures ascending { λ r. ⌜ Ascending (keysIn r (now (t .exit))) ⌝ }
     ensures swept { λ r. ⌜ AnyTabled (now (nexts .entry)) k (λ js. Swept js (i + 1) r (now (t .exit))) ⌝ }
 {
-    let key = keys::key_at(t, KEY * i);
+    let key = keys::key_at(t, i);
     let mut m = n;
     let mut s: u8 = 0;
     while s < STEP_CODES {
@@ -53,16 +48,15 @@ fn grow_row(nexts: &[u8], k: usize, t: &mut [u8], n: usize, i: usize) -> usize
     m
 }
 
-// Finds all live states and puts their keys into the table, ascending. Returns how many there are, 1,001 if they are too many.
+// Finds all live states and leaves their keys in memory, ascending. Returns how many there are, 1,001 if they are too many.
 pub(crate) fn find_states(nexts: &[u8], k: usize, t: &mut [u8]) -> usize
-    requires { ⌜ (length (now nexts) ≡ nextsOfAll) × (k ≤ mostJournals) × (length (now t) ≡ tableSize) ⌝ }
+    requires { ⌜ (length (now nexts) ≡ nextsOfAll) × (k ≤ mostJournals) × (length (now t) ≡ keysRoom) ⌝ }
     ensures { λ r. ⌜ AnyTabled (now (nexts .entry)) k (λ js. Found js r (now (t .exit))) ⌝ }
 {
     if k == 0 {
         return 0;
     }
-    keys::put(t, 0, [0u8; 16]);
-    let mut n = 1;
+    let mut n = keys::insert(t, 0, [0u8; 16]);
     let mut i = 0;
     while i < n {
         n = grow_row(nexts, k, t, n, i);

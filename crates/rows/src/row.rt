@@ -7,6 +7,7 @@ ghost use lib.ListN.{length, take, drop, getD};
 ghost use Rattle.words.specs.Limits.{stepCodes};
 ghost use Rattle.records.specs.Sizes.{rowBookSize, rowRecordSize, mostRows};
 ghost use Rattle.records.specs.RowBook.{rowRecord, behindCount, placesAt, arcAt, arcsAt, countAt};
+use lent_bytes::sixteen_at;
 use records::ARCS;
 use records::COUNT;
 use records::ROW_RECORD;
@@ -57,7 +58,7 @@ pub fn read_row(rows: &[u8], r: usize) -> Row
     requires { ⌜ (length (now rows) ≡ rowBookSize) × (r < mostRows) ⌝ }
     ensures { λ y. ⌜ (y .places ≡ placesAt (now (rows .entry)) r) × (y .arcs ≡ arcsAt (now (rows .entry)) r) × (y .count ≡ countAt (now (rows .entry)) r) ⌝ }
 {
-    let places = keys::key_at(rows, ROW_RECORD * r);
+    let places = sixteen_at(rows, ROW_RECORD * r);
     let arcs = arcs_at(rows, r);
     let count = count_at(rows, r);
     Row {

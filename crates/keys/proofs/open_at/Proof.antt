@@ -1,11 +1,12 @@
--- `keys::open_at` meets its contract: what `shift` and `put` leave is the keys with the new one behind the first p. Assumes nothing.
+-- `keys::open_at` meets its contract: what `shift` and `put_sixteen` leave is the keys with the new one behind the first p. Assumes nothing.
 use Prim.Native.Nat.{ℕ, _+_, _*_}
+use native.Mathlib.Omega.{arith}
 use mathlib.Core.Path.{_≡_, ap, _∙_}
 use mathlib.Core.List.{List}
 use lib.ListN.{length}
 use lib.Seq.{paste}
 use borrow.Author.Needs.{needs}
-use Rattle.records.specs.Bytes.{records}
+use Rattle.keys.specs.Keys.{keysIn}
 use Rattle.keys.proofs.RoomForKey.{opened-keys}
 use Rattle.keys.proofs.open_at.Statement.{statement}
 use Rattle.keys.proofs.open_at.Tie as tie
@@ -19,11 +20,11 @@ mul-shift-2 c = search needs
 shift-requires : tie.Need-shift-requires
 shift-requires c κs = search needs
 
-mul-put : tie.Need-mul-put
-mul-put c = search needs
+mul-put-sixteen : tie.Need-mul-put-sixteen
+mul-put-sixteen c = search needs
 
-put-requires : tie.Need-put-requires
-put-requires c κs = search needs
+put-sixteen-requires : tie.Need-put-sixteen-requires
+put-sixteen-requires c κs = search needs
 
 same-length : tie.Need-same-length
 same-length c = search needs
@@ -35,10 +36,10 @@ returns c =
     let s = at-shift .before .before .before in
     let a = s .args in
     let h : length (a .key) ≡ 16 = s .good .1 .1 .1 .0 .1 .0 .1 in
-    ap (λ (x : List ℕ). records 16 (a .n + 1) x) (at-put .put .ensures ∙ ap (λ (x : List ℕ). paste x (16 * a .p) (a .key) 16) (at-shift .shift .ensures))
-    ∙ opened-keys (a .n) (a .p) (a .t .now) (a .key) (s .pre .2) (s .pre .0) h
+    ap (λ (x : List ℕ). keysIn (a .n + 1) x) (at-put .put-sixteen .ensures ∙ ap (λ (x : List ℕ). paste x (16 * a .p) (a .key) 16) (at-shift .shift .ensures))
+    ∙ opened-keys (a .n) (a .p) (a .t .now) (a .key) (s .pre .2) (omega arith) h
 
 pub open-at-spec : {M : Type 1} → statement M
 open-at-spec =
     tie.close
-    (tie.spec mul-shift mul-shift-2 shift-requires mul-put put-requires same-length returns)
+    (tie.spec mul-shift mul-shift-2 shift-requires mul-put-sixteen put-sixteen-requires same-length returns)

@@ -2,17 +2,17 @@
 -- keys ascend. The measure is what lies between. Assumes nothing.
 use Prim.Native.Nat.{_+_, _-_, _/_, _≤_}
 use native.Mathlib.Omega.{arith}
+use mathlib.Core.Path.{sym, _∙_}
 use borrow.Author.Needs.{needs}
-use Rattle.records.specs.Bytes.{records}
-use Rattle.keys.specs.Keys.{rankOf}
-use Rattle.keys.proofs.Records.{length-records}
+use Rattle.keys.specs.Keys.{keysIn, rankOf}
+use Rattle.keys.proofs.Held.{length-keys}
 use Rattle.keys.proofs.Ranks.{rank-most}
 use Rattle.keys.proofs.KeyCompared.{rank-past, rank-within}
 use Rattle.keys.proofs.rank.Statement.{statement}
 use Rattle.keys.proofs.rank.Tie as tie
 
 abbrev Inv-loop : tie.InvT-loop
-Inv-loop t n key low₀ high₀ low high = (high ≤ n) × (low ≤ rankOf key (records 16 n t)) × (rankOf key (records 16 n t) ≤ high)
+Inv-loop t n key low₀ high₀ low high = (high ≤ n) × (low ≤ rankOf key (keysIn n t)) × (rankOf key (keysIn n t) ≤ high)
 
 abbrev μ-loop : tie.MeasureT-loop
 μ-loop t n key low₀ high₀ low high = high - low
@@ -20,7 +20,7 @@ abbrev μ-loop : tie.MeasureT-loop
 loop-holds : tie.Need-loop-holds Inv-loop μ-loop
 loop-holds c =
     let a = c .before .args in
-    (omega arith, omega arith, omega (arith, rank-most (a .key) (records 16 (a .n) (a .t .now)), length-records 16 (a .n) (a .t .now)))
+    (omega arith, omega arith, omega (arith, rank-most (a .key) (keysIn (a .n) (a .t .now)), length-keys (a .n) (a .t .now)))
 
 sub-middle : tie.Need-sub-middle Inv-loop μ-loop
 sub-middle c = search needs
@@ -28,14 +28,11 @@ sub-middle c = search needs
 add-middle : tie.Need-add-middle Inv-loop μ-loop
 add-middle c = search needs
 
-mul-key-at : tie.Need-mul-key-at Inv-loop μ-loop
-mul-key-at c = search needs
-
 key-at-requires : tie.Need-key-at-requires Inv-loop μ-loop
 key-at-requires c κs = search needs
 
-compare-requires : tie.Need-compare-requires Inv-loop μ-loop
-compare-requires c κs = search needs
+comes-before-requires : tie.Need-comes-before-requires Inv-loop μ-loop
+comes-before-requires c κs = search needs
 
 add-low : tie.Need-add-low Inv-loop μ-loop
 add-low c = search needs
@@ -49,7 +46,8 @@ loop-again c =
     let s = c .before .before .before .before .before .before in
     let a = s .args in
     let middle = l .low + (l .high - l .low) / 2 in
-    let past = rank-past (a .n) middle (a .t .now) (a .key) (omega arith) (c .before .before .key-at .ensures) (c .before .compare .ensures) (s .pre .2) (c .if1 .taken) in
+    let past = rank-past (a .n) middle (a .t .now) (a .key) (omega arith) (c .before .before .key-at .ensures _ (omega arith)) (s .pre .2)
+    (sym (c .before .comes-before .ensures) ∙ c .if1 .taken) in
     (omega arith, omega arith, omega arith)
 
 loop-less-2 : tie.Need-loop-less-2 Inv-loop μ-loop
@@ -60,7 +58,7 @@ loop-again-2 c =
     let l = c .before .before .before .before .loop in
     let a = c .before .before .before .before .before .before .args in
     let middle = l .low + (l .high - l .low) / 2 in
-    (omega arith, omega arith, rank-within (a .n) middle (a .t .now) (a .key) (omega arith) (c .before .before .key-at .ensures) (c .before .compare .ensures) (c .if1 .left))
+    (omega arith, omega arith, rank-within (a .n) middle (a .t .now) (a .key) (omega arith) (c .before .before .key-at .ensures _ (omega arith)) (sym (c .before .comes-before .ensures) ∙ c .if1 .left))
 
 returns : tie.Need-returns Inv-loop μ-loop
 returns c = search needs
@@ -74,9 +72,8 @@ rank-spec =
     loop-holds
     sub-middle
     add-middle
-    mul-key-at
     key-at-requires
-    compare-requires
+    comes-before-requires
     add-low
     loop-less
     loop-again

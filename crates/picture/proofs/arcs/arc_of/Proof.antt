@@ -3,9 +3,9 @@
 use native.Mathlib.Omega.{arith}
 use borrow.Author.Needs.{needs}
 use mathlib.Core.Path.{sym, _∙_}
-use Rattle.records.specs.Bytes.{records}
 use Rattle.keys.proofs.Ranks.{rank-most}
-use Rattle.keys.proofs.Records.{length-records}
+use Rattle.keys.proofs.Held.{length-keys}
+use Rattle.keys.specs.Keys.{keysIn}
 use Rattle.picture.proofs.KeyRow.{arc-live, arc-lost}
 use Rattle.picture.proofs.arcs.arc_of.Statement.{statement}
 use Rattle.picture.proofs.arcs.arc_of.Tie as tie
@@ -22,7 +22,7 @@ rank-requires c κs = search needs
 cast-result : tie.Need-cast-result
 cast-result c =
     let a = c .before .before .before .before .before .before .args in
-    omega (arith, c .rank .ensures, rank-most (c .before .before .before .step-key .result) (records 16 (a .n) (a .t .now)), length-records 16 (a .n) (a .t .now))
+    omega (arith, c .rank .ensures, rank-most (c .before .before .before .step-key .result) (keysIn (a .n) (a .t .now)), length-keys (a .n) (a .t .now))
 
 returns : tie.Need-returns
 returns c =

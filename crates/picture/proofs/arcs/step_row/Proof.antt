@@ -8,21 +8,21 @@ use mathlib.Core.Path.{_≡_, refl, ap, ap₂, _∙_}
 use mathlib.Core.List.{List, [], _++_, append-nil}
 use lib.ListN.{length, take, drop, getD, set, drop-of-length-le}
 use lib.Seq.{paste, paste-zero, paste-suc, take-all}
-use Rattle.records.specs.Bytes.{records}
+use Rattle.keys.specs.Keys.{keysIn}
 use Rattle.picture.specs.KeyRow.{keyArcs}
 use Rattle.picture.proofs.KeyRow.{length-arcs, arc-at}
 use Rattle.picture.proofs.arcs.step_row.Statement.{statement}
 use Rattle.picture.proofs.arcs.step_row.Tie as tie
 
 abbrev Inv-loop : tie.InvT-loop
-Inv-loop nexts k t n places arcs₀ s₀ arcs s = (s ≤ 16) × (arcs ≡ paste arcs₀ 0 (keyArcs nexts k (records 16 n t) places) s)
+Inv-loop nexts k t n places arcs₀ s₀ arcs s = (s ≤ 16) × (arcs ≡ paste arcs₀ 0 (keyArcs nexts k (keysIn n t) places) s)
 
 abbrev μ-loop : tie.MeasureT-loop
 μ-loop nexts k t n places arcs₀ s₀ arcs s = 16 - s
 
 module _ (s : tie.Start Inv-loop μ-loop) where
   abbrev Keys : List (List ℕ)
-  Keys = records 16 (s .args .n) (s .args .t .now)
+  Keys = keysIn (s .args .n) (s .args .t .now)
 
   abbrev Arcs : List ℕ
   Arcs = keyArcs (s .args .nexts .now) (s .args .k) Keys (s .args .row .places)

@@ -6,10 +6,10 @@ use borrow.Author.Needs.{needs}
 use mathlib.Core.Path.{_≡_, ap, _∙_}
 use mathlib.Core.List.{List}
 use lib.ListN.{length}
-use Rattle.records.specs.Bytes.{records}
 use Rattle.records.specs.RowBook.{unused}
 use Rattle.records.proofs.Replaced.{replaced-none}
-use Rattle.keys.proofs.Records.{length-records, records-wide}
+use Rattle.keys.proofs.Held.{length-keys, keys-wide}
+use Rattle.keys.specs.Keys.{keysIn}
 use Rattle.picture.specs.KeyRow.{keyRow}
 use Rattle.picture.specs.Laid.{laid}
 use Rattle.picture.proofs.Laid.{Sixteen}
@@ -18,20 +18,20 @@ use Rattle.picture.proofs.drawing.draw_rows.Statement.{statement}
 use Rattle.picture.proofs.drawing.draw_rows.Tie as tie
 
 abbrev Inv-loop : tie.InvT-loop
-Inv-loop nexts k t n rows₀ i₀ rows i = (i ≤ n) × (length rows ≡ 64000) × (rows ≡ linked nexts k (records 16 n t) i)
+Inv-loop nexts k t n rows₀ i₀ rows i = (i ≤ n) × (length rows ≡ 64000) × (rows ≡ linked nexts k (keysIn n t) i)
 
 abbrev μ-loop : tie.MeasureT-loop
 μ-loop nexts k t n rows₀ i₀ rows i = i
 
 module _ (s : tie.Start Inv-loop μ-loop) where
   abbrev Keys : List (List ℕ)
-  Keys = records 16 (s .args .n) (s .args .t .now)
+  Keys = keysIn (s .args .n) (s .args .t .now)
 
   many : length Keys ≡ s .args .n
-  many = length-records 16 (s .args .n) (s .args .t .now)
+  many = length-keys (s .args .n) (s .args .t .now)
 
   sixteen : Sixteen Keys
-  sixteen = records-wide 16 (s .args .n) (s .args .t .now) (s .pre .2)
+  sixteen = keys-wide (s .args .n) (s .args .t .now) (omega arith) (s .pre .2)
 
   -- the book with the rows from i on linked
   abbrev Linked : ℕ → List ℕ

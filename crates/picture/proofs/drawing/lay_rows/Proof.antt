@@ -3,13 +3,13 @@
 use Prim.Native.Nat.{ℕ, _+_, _-_, _≤_, _<_}
 use native.Mathlib.Omega.{arith}
 use borrow.Author.Needs.{needs}
-use mathlib.Core.Path.{_≡_, sym, ap, _∙_}
+use mathlib.Core.Path.{_≡_, ap, _∙_}
 use mathlib.Core.List.{List, []}
 use lib.ListN.{length, getD, replicate}
-use Rattle.records.specs.Bytes.{records}
 use Rattle.records.specs.RowBook.{unused}
 use Rattle.records.proofs.Replaced.{replaced}
-use Rattle.keys.proofs.Records.{length-records, records-at, records-wide}
+use Rattle.keys.proofs.Held.{length-keys, keys-wide}
+use Rattle.keys.specs.Keys.{keysIn}
 use Rattle.picture.specs.Laid.{laid}
 use Rattle.picture.proofs.Laid.{blank, Sixteen, laid-start, lays}
 use Rattle.picture.proofs.drawing.lay_rows.Statement.{statement}
@@ -20,20 +20,20 @@ abbrev laidFrom : List (List ℕ) → ℕ → List ℕ
 laidFrom keys r = replaced blank laid keys (unused (length keys)) r
 
 abbrev Inv-loop : tie.InvT-loop
-Inv-loop t n rows₀ r₀ rows r = (r ≤ n) × (length rows ≡ 64000) × (rows ≡ laidFrom (records 16 n t) r)
+Inv-loop t n rows₀ r₀ rows r = (r ≤ n) × (length rows ≡ 64000) × (rows ≡ laidFrom (keysIn n t) r)
 
 abbrev μ-loop : tie.MeasureT-loop
 μ-loop t n rows₀ r₀ rows r = r
 
 module _ (s : tie.Start Inv-loop μ-loop) where
   abbrev Keys : List (List ℕ)
-  Keys = records 16 (s .args .n) (s .args .t .now)
+  Keys = keysIn (s .args .n) (s .args .t .now)
 
   many : length Keys ≡ s .args .n
-  many = length-records 16 (s .args .n) (s .args .t .now)
+  many = length-keys (s .args .n) (s .args .t .now)
 
   sixteen : Sixteen Keys
-  sixteen = records-wide 16 (s .args .n) (s .args .t .now) (s .pre .0)
+  sixteen = keys-wide (s .args .n) (s .args .t .now) (omega arith) (s .pre .0)
 
 -- the function's start, from where its loop starts
 abbrev start : tie.After-slice-known2 Inv-loop μ-loop → tie.Start Inv-loop μ-loop
@@ -55,17 +55,14 @@ loop-holds c =
 sub-r : tie.Need-sub-r Inv-loop μ-loop
 sub-r c = search needs
 
-mul-key-at : tie.Need-mul-key-at Inv-loop μ-loop
-mul-key-at c = search needs
-
 key-at-requires : tie.Need-key-at-requires Inv-loop μ-loop
 key-at-requires c κs = search needs
 
-mul-put : tie.Need-mul-put Inv-loop μ-loop
-mul-put c = search needs
+mul-put-sixteen : tie.Need-mul-put-sixteen Inv-loop μ-loop
+mul-put-sixteen c = search needs
 
-put-requires : tie.Need-put-requires Inv-loop μ-loop
-put-requires c κs = search needs
+put-sixteen-requires : tie.Need-put-sixteen-requires Inv-loop μ-loop
+put-sixteen-requires c κs = search needs
 
 loop-less : tie.Need-loop-less Inv-loop μ-loop
 loop-less c = search needs
@@ -76,11 +73,11 @@ loop-again c =
     let l = turn .before .loop in
     let s = start (turn .before .before) in
     let read = c .before .before .before .before .key-at in
-    let put = c .before .before .put in
+    let put = c .before .before .put-sixteen in
     let i = l .r - 1 in
     let b : i < s .args .n = omega (arith, turn .loop-test) in
     let e : l .r ≡ i + 1 = omega (arith, turn .loop-test) in
-    let key : read .result ≡ getD (Keys s) i [] = read .ensures ∙ sym (records-at 16 (s .args .n) (s .args .t .now) i b) in (
+    let key : read .result ≡ getD (Keys s) i [] = read .ensures (s .args .n) b in (
       omega arith,
       put .kept .0 ∙ l .inv .1,
       put .ensures
@@ -106,10 +103,9 @@ lay-rows-spec =
     zero-all-requires
     loop-holds
     sub-r
-    mul-key-at
     key-at-requires
-    mul-put
-    put-requires
+    mul-put-sixteen
+    put-sixteen-requires
     loop-less
     loop-again
     same-length

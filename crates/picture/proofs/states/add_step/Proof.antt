@@ -2,8 +2,8 @@
 use mathlib.Core.Path.{sym, ap, _∙_}
 use lib.ListN.{length}
 use borrow.Author.Needs.{needs}
-use Rattle.records.specs.Bytes.{records}
-use Rattle.keys.proofs.Records.{length-records}
+use Rattle.keys.proofs.Held.{length-keys}
+use Rattle.keys.specs.Keys.{keysIn}
 use Rattle.picture.specs.Stepped.{steppedKey}
 use Rattle.picture.proofs.Added.{goes-in, stays-out}
 use Rattle.picture.proofs.states.add_step.Statement.{statement}
@@ -31,7 +31,7 @@ returns c =
     let asked = taken .before in
     let step = asked .before .step-key in
     let a = start (asked .before) .args in
-    let e = goes-in (a .k) (step .result) (steppedKey (a .nexts .now) (a .k) (a .key) (a .s)) (records 16 (a .n) (a .t .now)) (step .ensures) (sym (asked .is-live .ensures) ∙ taken .if1 .taken) in
+    let e = goes-in (a .k) (step .result) (steppedKey (a .nexts .now) (a .k) (a .key) (a .s)) (keysIn (a .n) (a .t .now)) (step .ensures) (sym (asked .is-live .ensures) ∙ taken .if1 .taken) in
     (c .before .before .insert .ensures .0 ∙ e, c .before .before .insert .ensures .1 ∙ ap length e)
 
 returns-2 : tie.Need-returns-2
@@ -39,8 +39,8 @@ returns-2 c =
     let asked = c .before in
     let step = asked .before .step-key in
     let a = start (asked .before) .args in
-    let e = stays-out (a .k) (step .result) (steppedKey (a .nexts .now) (a .k) (a .key) (a .s)) (records 16 (a .n) (a .t .now)) (step .ensures) (sym (asked .is-live .ensures) ∙ c .if1 .left) in
-    (e, sym (length-records 16 (a .n) (a .t .now)) ∙ ap length e)
+    let e = stays-out (a .k) (step .result) (steppedKey (a .nexts .now) (a .k) (a .key) (a .s)) (keysIn (a .n) (a .t .now)) (step .ensures) (sym (asked .is-live .ensures) ∙ c .if1 .left) in
+    (e, sym (length-keys (a .n) (a .t .now)) ∙ ap length e)
 
 pub add-step-spec : {M : Type 1} → statement M
 add-step-spec =

@@ -1,4 +1,4 @@
--- `picture::states::find_states` meets its contract. The invariant: the rows before i are done, there are at most 1,000 keys, they ascend, and the table
+-- `picture::states::find_states` meets its contract. The invariant: the rows before i are done, there are at most 1,000 keys, they ascend, and memory
 -- has its length. With no row left the states are the picture. The measure is 1,000 less i, since i is below the number of keys. Assumes nothing.
 use Prim.Native.Nat.{_-_, _≤_}
 use native.Mathlib.Omega.{arith}
@@ -6,16 +6,17 @@ use mathlib.Core.Path.{_≡_, sym, _∙_}
 use lib.ListN.{length}
 use borrow.Author.Needs.{needs}
 use Rattle.words.specs.Order.{Ascending}
-use Rattle.records.specs.Bytes.{records}
+use Rattle.keys.proofs.Held.{no-keys}
+use Rattle.keys.specs.Keys.{keysRoom, keysIn}
 use Rattle.picture.specs.Nexts.{AnyTabled}
 use Rattle.picture.specs.Found.{Sweeping}
-use Rattle.picture.proofs.Sweeping.{none-found, one-ascending, sweep-begins, sweep-ends}
+use Rattle.picture.proofs.Sweeping.{first-key, one-key, one-ascending, sweep-begins, sweep-ends, none-found}
 use Rattle.picture.proofs.states.find_states.Statement.{statement}
 use Rattle.picture.proofs.states.find_states.Tie as tie
 
 abbrev Inv-loop : tie.InvT-loop
 Inv-loop nexts k t₀ n₀ i₀ t n i =
-    (length t ≡ 16016) × (n ≤ 1000) × Ascending (records 16 n t) × AnyTabled nexts k (λ js. Sweeping js i 0 n t)
+    (length t ≡ keysRoom) × (n ≤ 1000) × Ascending (keysIn n t) × AnyTabled nexts k (λ js. Sweeping js i 0 n t)
 
 abbrev μ-loop : tie.MeasureT-loop
 μ-loop nexts k t₀ n₀ i₀ t n i = 1000 - i
@@ -30,17 +31,18 @@ some c = c .before .before .before .before
 returns : tie.Need-returns Inv-loop μ-loop
 returns c js are many tabled = none-found js (c .before .before .before .args .t .now) (many ∙ c .if1 .taken)
 
-put-requires : tie.Need-put-requires Inv-loop μ-loop
-put-requires c κs = search needs
+insert-requires : tie.Need-insert-requires Inv-loop μ-loop
+insert-requires c κs = (search needs, omega arith, rw (no-keys (start (c .before) .args .t .now)) tt)
 
 loop-holds : tie.Need-loop-holds Inv-loop μ-loop
 loop-holds c =
     let s = start (some c) in
-    let put = c .before .before .put in (
+    let put = c .before .before .insert in
+    let first = put .ensures .0 ∙ first-key _ (s .args .t .now) in (
       put .kept .0 ∙ s .pre .2,
-      omega arith,
-      one-ascending (put .last .0),
-      λ js are many tabled. sweep-begins js are (λ z. some c .if1 .left (sym many ∙ z)) (s .args .t .now) (put .last .0) (put .ensures),
+      omega (arith, one-key _ _ first),
+      one-ascending _ _ first,
+      λ js are many tabled. sweep-begins _ _ first js are (λ z. some c .if1 .left (sym many ∙ z)),
     )
 
 grow-row-requires : tie.Need-grow-row-requires Inv-loop μ-loop
@@ -90,7 +92,7 @@ find-states-spec =
     Inv-loop
     μ-loop
     returns
-    put-requires
+    insert-requires
     loop-holds
     grow-row-requires
     same-length

@@ -1,4 +1,4 @@
--- `picture::states::grow_row` meets its contract. The invariant: there are at most 1,000 keys, they ascend, and the table keeps its length; of row i the
+-- `picture::states::grow_row` meets its contract. The invariant: there are at most 1,000 keys, they ascend, and memory keeps its length; of row i the
 -- steps below s are done, and row i still has the key that was read. A turn is one step of the sweep, or finds more than 1,000 live states. The measure is
 -- how many steps are left. Assumes nothing.
 use Prim.Native.Nat.{ℕ, _+_, _-_, _≤_}
@@ -8,7 +8,7 @@ use mathlib.Core.List.{List}
 use lib.ListN.{length}
 use borrow.Author.Needs.{needs}
 use Rattle.words.specs.Order.{Ascending}
-use Rattle.records.specs.Bytes.{records}
+use Rattle.keys.specs.Keys.{keysIn}
 use Rattle.picture.specs.Nexts.{AnyTabled}
 use Rattle.picture.specs.Found.{Sweeping}
 use Rattle.picture.proofs.Added.{with-ascending}
@@ -18,7 +18,7 @@ use Rattle.picture.proofs.states.grow_row.Tie as tie
 
 abbrev Inv-loop : tie.InvT-loop
 Inv-loop nexts k t₀ n i key m₀ s₀ t m s =
-    (s ≤ 16) × (length t ≡ length t₀) × (m ≤ 1000) × Ascending (records 16 m t) × AnyTabled nexts k (λ js. Growing js i s key m t)
+    (s ≤ 16) × (length t ≡ length t₀) × (m ≤ 1000) × Ascending (keysIn m t) × AnyTabled nexts k (λ js. Growing js i s key m t)
 
 abbrev μ-loop : tie.MeasureT-loop
 μ-loop nexts k t₀ n i key m₀ s₀ t m s = 16 - s
@@ -43,12 +43,9 @@ module _ (c : tie.After-add-step Inv-loop μ-loop) where
       grown js are (a .nexts .now) tabled (a .i) (l .s) (l .m) (reading c .key-at .result) (l .t) (l .inv .4 js are many tabled) (omega arith) (a .k)
       (sym many) (c .add-step .result) Table (c .add-step .ensures .0)
 
-  ascending : Ascending (records 16 (c .add-step .result) Table)
+  ascending : Ascending (keysIn (c .add-step .result) Table)
   ascending =
       subst (λ (x : List (List ℕ)). Ascending x) (sym (c .add-step .ensures .0)) (with-ascending _ _ _ (c .before .before .before .loop .inv .3))
-
-mul-key-at : tie.Need-mul-key-at Inv-loop μ-loop
-mul-key-at c = search needs
 
 key-at-requires : tie.Need-key-at-requires Inv-loop μ-loop
 key-at-requires c κs = search needs
@@ -62,15 +59,14 @@ loop-holds c =
       s .pre .4,
       s .pre .5,
       λ js are many tabled.
-          subst (λ (x : List ℕ). Growing js (a .i) 0 x (a .n) (a .t .now)) (sym (c .key-at .ensures))
-          (row-begins js are (a .i) 0 (a .n) (a .t .now) (s .pre .6 js are many tabled) (s .pre .3)),
+          row-begins js are (a .i) 0 (a .n) (a .t .now) (s .pre .6 js are many tabled) (s .pre .3) (c .key-at .ensures _ (s .pre .3)),
     )
 
 add-step-requires : tie.Need-add-step-requires Inv-loop μ-loop
 add-step-requires c κs =
     let l = c .before .before .loop in
     let p = start (c .before .before .before) .pre in
-    (p .0, p .1, omega arith, omega arith, l .inv .2, l .inv .3)
+    (p .0, p .1, omega arith, l .inv .1 ∙ p .2, l .inv .2, l .inv .3)
 
 same-length : tie.Need-same-length Inv-loop μ-loop
 same-length c = search needs
@@ -118,7 +114,6 @@ grow-row-spec =
     (tie.spec
     Inv-loop
     μ-loop
-    mul-key-at
     key-at-requires
     loop-holds
     add-step-requires

@@ -1,4 +1,5 @@
--- `keys::put` meets its contract. The loop's invariant: the first i bytes of the key are pasted over the table from `at` on. Assumes nothing.
+-- `lent_bytes::put_sixteen` meets its contract. The loop's invariant: the first i bytes of the source are pasted over the others from `at` on. Assumes
+-- nothing.
 use Prim.Native.Nat.{ℕ, _+_, _-_, _≤_}
 use native.Mathlib.Numerals.{add-one}
 use native.Mathlib.Omega.{arith}
@@ -7,26 +8,26 @@ use mathlib.Core.List.{List}
 use lib.ListN.{length, set, getD, length-set}
 use lib.Seq.{paste, paste-zero, paste-suc}
 use borrow.Author.Needs.{needs}
-use Rattle.keys.proofs.put.Statement.{statement}
-use Rattle.keys.proofs.put.Tie as tie
+use Rattle.lent_bytes.proofs.put_sixteen.Statement.{statement}
+use Rattle.lent_bytes.proofs.put_sixteen.Tie as tie
 
 abbrev Inv-loop : tie.InvT-loop
-Inv-loop t₀ at key i₀ t i = (i ≤ 16) × (length t ≡ length t₀) × (t ≡ paste t₀ at key i)
+Inv-loop b₀ at source i₀ b i = (i ≤ 16) × (length b ≡ length b₀) × (b ≡ paste b₀ at source i)
 
 abbrev μ-loop : tie.MeasureT-loop
-μ-loop t₀ at key i₀ t i = 16 - i
+μ-loop b₀ at source i₀ b i = 16 - i
 
 loop-holds : tie.Need-loop-holds Inv-loop μ-loop
-loop-holds c = (omega arith, refl, paste-zero (c .args .t .now) (c .args .at) (c .args .t3))
+loop-holds c = (omega arith, refl, paste-zero (c .args .b .now) (c .args .at) (c .args .t3))
 
-array-read-t : tie.Need-array-read-t Inv-loop μ-loop
-array-read-t c = search needs
+array-read-b : tie.Need-array-read-b Inv-loop μ-loop
+array-read-b c = search needs
 
-add-t : tie.Need-add-t Inv-loop μ-loop
-add-t c = search needs
+add-b : tie.Need-add-b Inv-loop μ-loop
+add-b c = search needs
 
-slice-write-t : tie.Need-slice-write-t Inv-loop μ-loop
-slice-write-t c = search needs
+slice-write-b : tie.Need-slice-write-b Inv-loop μ-loop
+slice-write-b c = search needs
 
 add-i : tie.Need-add-i Inv-loop μ-loop
 add-i c = search needs
@@ -44,7 +45,7 @@ loop-again c =
       simp length-set (l .inv .1),
       rw add-one
           (ap (λ (x : List ℕ). set x (a .at + l .i) (getD (a .t3) (l .i) 0)) (l .inv .2)
-          ∙ paste-suc (a .t .now) (a .at) (a .t3) (l .i) 0 (omega arith) (omega arith)),
+          ∙ paste-suc (a .b .now) (a .at) (a .t3) (l .i) 0 (omega arith) (omega arith)),
     )
 
 same-length : tie.Need-same-length Inv-loop μ-loop
@@ -55,18 +56,18 @@ returns c =
     let l = c .before .loop in
     let a = c .before .before .args in
     let e : l .i ≡ 16 = omega arith in
-    l .inv .2 ∙ ap (λ (k : ℕ). paste (a .t .now) (a .at) (a .t3) k) e
+    l .inv .2 ∙ ap (λ (k : ℕ). paste (a .b .now) (a .at) (a .t3) k) e
 
-pub put-spec : {M : Type 1} → statement M
-put-spec =
+pub put-sixteen-spec : {M : Type 1} → statement M
+put-sixteen-spec =
     tie.close
     (tie.spec
     Inv-loop
     μ-loop
     loop-holds
-    array-read-t
-    add-t
-    slice-write-t
+    array-read-b
+    add-b
+    slice-write-b
     add-i
     loop-less
     loop-again
