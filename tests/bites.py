@@ -1,22 +1,30 @@
 #!/usr/bin/env python3
-"""Shows that the trials and the program's cases can fail: breaks tests/model.py and tests/program_model.py in many ways,
-those that document 01 has seen go wrong among them, and prints for each the first line of the trial, or the case, that
-tells. Ends with an error where none does.
+"""Shows that the trial's parts and the program's cases can fail: breaks tests/model.py and tests/program_model.py in many ways,
+those that document 01 has seen go wrong among them, and prints for each the first line of a part, or the case, that tells.
+Ends with an error where none does. It takes some minutes, and is no part of the gate.
 
-    python3 tests/bites.py               breaks the books, the list and the program
-    python3 tests/bites.py trial_list    breaks the list only; the same with trial_books and cases
+    python3 tests/bites.py [books] [list] [cases]
 """
+import concurrent.futures
 import os
-import struct
 import sys
 import types
 
-import make_books_trial
-import make_cases
-import make_list_trial
+import named_cases
+import program_model
+import run_parts
 import trial
 
-# What is wrong, the text of the model, and what stands there instead.
+# What is wrong, the text of the model, and what stands there instead. First texts that change places.
+SOUND = "    if check(journals, rows)[0] != 0:\n        return 2\n"
+NOW = "    now = journals_of(journals)\n"
+IS_3 = "    if step >= STEPS:\n        return 3\n"
+IS_4 = "    if not now:\n        return 4\n"
+IS_5 = "    if len(now[-1]) == LONGEST_JOURNAL:\n        return 5\n"
+IS_6 = "    after = now[:-1] + (now[-1] + bytes([step]),)\n    if picture(after) is None:\n        return 6\n"
+RECORD_10 = "    word = steps_of(record, LONGEST_WORD)\n    if word is None:\n        return 10, 0\n"
+FORM_2 = "    if first_wrong(journals) != JOURNALS:\n        return 2, 0\n"
+
 WRONG_BOOKS = [
     ("counts distinct places", "return len(state) - state.count(LOST)", "return len(set(state) - {LOST})"),
     ("keeps states that no word reaches", "reached, words = {}, [bytes(len(journals))]",
@@ -35,21 +43,17 @@ WRONG_BOOKS = [
     ("words of 16 steps", "16, 16, 200, 15, 255", "16, 16, 200, 16, 255"),
     ("999 rows are all", "64000, 64, 1000, 16", "64000, 64, 999, 16"),
     ("1,001 rows are right", "if len(reached) == ROWS:", "if len(reached) == ROWS + 1:"),
-    ("bytes behind the length are not looked at", " and not any(behind)", ""),
+    ("bytes behind the length are not looked at", " and is_zero(behind)", ""),
     ("open after a gap", "if not right or is_open and shut:", "if not right:"),
-    ("the gap is named", "            return i\n", "            return i - (right and is_open and shut)\n"),
+    ("the gap is named", "            return i, ()\n", "            return i - (right and is_open and shut), ()\n"),
     ("the last record of 1,000 is named", "return 2, 2, ROWS, 0", "return 2, 2, ROWS - 1, 0"),
     ("the byte counts from the book's start", "at % ROW_RECORD", "at"),
-    ("open: 7 before 2", "    if check(journals, rows)[0] != 0:\n        return 2\n    now = journals_of(journals)\n    if len(now) == JOURNALS:\n        return 7\n",
-     "    if all(journals[256 * i] == 1 for i in range(16)):\n        return 7\n    if check(journals, rows)[0] != 0:\n        return 2\n    now = journals_of(journals)\n"),
-    ("append: 3 before 2", "    if check(journals, rows)[0] != 0:\n        return 2\n    if step >= STEPS:\n        return 3\n",
-     "    if step >= STEPS:\n        return 3\n    if check(journals, rows)[0] != 0:\n        return 2\n"),
-    ("append: 4 before 3", "    if step >= STEPS:\n        return 3\n    now = journals_of(journals)\n    if not now:\n        return 4\n",
-     "    now = journals_of(journals)\n    if not now:\n        return 4\n    if step >= STEPS:\n        return 3\n"),
-    ("append: 5 before 3", "    if step >= STEPS:\n        return 3\n    now = journals_of(journals)\n",
-     "    now = journals_of(journals)\n    if now and len(now[-1]) == LONGEST_JOURNAL:\n        return 5\n    if step >= STEPS:\n        return 3\n"),
-    ("append: 6 before 5", "    if len(now[-1]) == LONGEST_JOURNAL:\n        return 5\n    after = now[:-1] + (now[-1] + bytes([step]),)\n    if picture(after) is None:\n        return 6\n",
-     "    after = now[:-1] + (now[-1] + bytes([step]),)\n    if picture(after) is None:\n        return 6\n    if len(now[-1]) == LONGEST_JOURNAL:\n        return 5\n"),
+    ("open: 7 before 2", SOUND + NOW + "    if len(now) == JOURNALS:\n        return 7\n",
+     "    if all(journals[256 * i] == 1 for i in range(16)):\n        return 7\n" + SOUND + NOW),
+    ("append: 3 before 2", SOUND + IS_3, IS_3 + SOUND),
+    ("append: 4 before 3", IS_3 + NOW + IS_4, NOW + IS_4 + IS_3),
+    ("append: 5 before 3", IS_3 + NOW + IS_4 + IS_5, NOW + IS_5.replace("if ", "if now and ") + IS_3 + IS_4),
+    ("append: 6 before 5", IS_5 + IS_6, IS_6 + IS_5),
     ("append writes before it refuses with 6", "    if picture(after) is None:\n", "    journals[:] = journal_book(after)\n    if picture(after) is None:\n"),
     ("append writes nothing", "    write_books(journals, rows, after)\n", ""),
     ("table count: steps are tested on the way", "if any(step >= STEPS for step in word):", "if any(step >= STEPS for step in word[:1]):"),
@@ -57,11 +61,16 @@ WRONG_BOOKS = [
     ("table count: an arc to its own row", "if arc <= present or", "if arc < present or"),
     ("table count: an arc of 1,000", "arc >= ROWS", "arc > ROWS"),
     ("table count: 0 on the way is 0", "        if counted == 0 or counted > 16:\n            return 2, 0\n", "        if counted > 16:\n            return 2, 0\n"),
-    ("journal count: 2 before 10", "    word = steps_of(record, LONGEST_WORD)\n    if word is None:\n        return 10, 0\n    if first_wrong(journals) != JOURNALS:\n        return 2, 0\n",
-     "    if first_wrong(journals) != JOURNALS:\n        return 2, 0\n    word = steps_of(record, LONGEST_WORD)\n    if word is None:\n        return 10, 0\n"),
+    ("journal count: 2 before 10", RECORD_10 + FORM_2, FORM_2 + RECORD_10),
     ("row record: 13 before 1", "    if len(rows) != ROW_BOOK:\n        return 1\n    return 13 if", "    if len(rows) != ROW_BOOK:\n        return 13 if n >= ROWS else 1\n    return 13 if"),
     ("row record: row 1,000", "return 13 if n >= ROWS else 0", "return 13 if n > ROWS else 0"),
     ("row record: the next row", "return rows[ROW_RECORD * n:ROW_RECORD * (n + 1)]", "return rows[ROW_RECORD * (n + 1):ROW_RECORD * (n + 2)]"),
+    ("the journals of a book that lacks its form", "        return 2, 0\n    return 0, len(journals_of(journals))", "        pass\n    return 0, journals[::256].tolist().count(1)"),
+    ("journals: 2 before 1", "    if len(journals) != JOURNAL_BOOK:\n        return 1, 0\n    if first_wrong",
+     "    if len(journals) >= JOURNAL_BOOK and first_wrong(journals) != JOURNALS:\n        return 2, 0\n    if len(journals) != JOURNAL_BOOK:\n        return 1, 0\n    if first_wrong"),
+    ("a journal that is empty is not open", "return 0, len(journals_of(journals))", "return 0, len([j for j in journals_of(journals) if j])"),
+    ("the rows of damaged books", "        return 2, 0\n    return 0, len(live_states(journals_of(journals)))", "        pass\n    return 0, sum(any(rows[a:a + 64]) for a in range(0, len(rows), 64))"),
+    ("the empty word has no row", "return 0, len(live_states(journals_of(journals)))", "return 0, max(len(live_states(journals_of(journals))) - 1, 0)"),
     ("clear leaves the row book", "journals[:], rows[:] = bytes(JOURNAL_BOOK), bytes(ROW_BOOK)", "journals[:] = bytes(JOURNAL_BOOK)"),
     ("a row book that is too long is taken", "len(journals) == JOURNAL_BOOK and len(rows) == ROW_BOOK", "len(journals) == JOURNAL_BOOK and len(rows) >= ROW_BOOK"),
 ]
@@ -125,7 +134,7 @@ WRONG_LISTS = [
 
 IS_12 = "    if len(ask) != 2:\n        return 12, 0, 0\n"
 ASK_9 = "    if length > model.LONGEST_WORD:\n        return 9, 0, 0\n"
-ASK_8 = "    if quorum < 1 or quorum > k:\n        return 8, 0, 0\n"
+ASK_8 = "    if quorum < 1 or quorum > every:\n        return 8, 0, 0\n"
 
 WRONG_PROGRAMS = [
     ("step 16 is a step", "model.STEPS <= step < ONLY_OPENS", "model.STEPS < step < ONLY_OPENS"),
@@ -140,27 +149,27 @@ WRONG_PROGRAMS = [
     ("a lone last byte is passed over", "range(len(begun), len(entries), 2)", "range(len(begun), len(entries) - 1, 2)"),
     ("a refused entry is passed over", "        if refused:\n            keep(", "        if refused == 6:\n            keep("),
     ("no ask is length 9", "EMPTY_OR_MISSING_LENGTH = 255, 8", "EMPTY_OR_MISSING_LENGTH = 255, 9"),
-    ("no ask is quorum 1", "bytes([k, EMPTY_OR_MISSING_LENGTH])", "bytes([1, EMPTY_OR_MISSING_LENGTH])"),
+    ("no ask is quorum 1", "bytes([every, EMPTY_OR_MISSING_LENGTH])", "bytes([1, EMPTY_OR_MISSING_LENGTH])"),
     ("an empty ask file is 12", "    if not ask:\n", "    if ask is None:\n"),
     ("an ask of 3 bytes is cut", IS_12, "    ask = ask[:2]\n" + IS_12),
     ("an ask of 1 byte is a quorum", IS_12, "    ask = ask + b\"\\3\" if len(ask) == 1 else ask\n" + IS_12),
     ("8 before 9", ASK_9 + ASK_8, ASK_8 + ASK_9),
     ("length 16 is taken", "length > model.LONGEST_WORD", "length > model.LONGEST_WORD + 1"),
     ("length 15 is refused", "length > model.LONGEST_WORD", "length >= model.LONGEST_WORD"),
-    ("quorum k + 1 is taken", "quorum > k:", "quorum > k + 1:"),
-    ("quorum k is refused", "quorum > k:", "quorum >= k:"),
+    ("quorum k + 1 is taken", "quorum > every:", "quorum > every + 1:"),
+    ("quorum k is refused", "quorum > every:", "quorum >= every:"),
     ("quorum 0 stands for 1", "    quorum, length = ask\n", "    quorum, length = max(ask[0], 1), ask[1]\n"),
     ("a refused ask before a refused entry", "    if refused:\n        return line(\"refused\", refused, \"record\"",
-     "    if refused and not asked(len(model.journals_of(books[0])), ask)[0]:\n        return line(\"refused\", refused, \"record\""),
+     "    if refused and not asked(books, ask)[0]:\n        return line(\"refused\", refused, \"record\""),
     ("the count before the length", "line(len(word), model.count(journals, word), *word)", "line(model.count(journals, word), len(word), *word)"),
     ("the count is left out", "line(len(word), model.count(journals, word), *word)", "line(len(word), *word)"),
     ("the last line counts the words but one", "line(\"end\", len(words))", "line(\"end\", len(words) - 1)"),
-    ("the empty word is not counted as a row", "len(model.rows_of(books[1]))", "len(model.rows_of(books[1])) - 1"),
-    ("empty journals are no texts", "line(\"texts\", len(journals)", "line(\"texts\", len([j for j in journals if j])"),
+    ("the empty word is not counted as a row", "model.live_rows(*books)[1]", "model.live_rows(*books)[1] - 1"),
+    ("empty journals are no texts", "line(\"texts\", model.open_journals(books[0])[1]", "line(\"texts\", len([j for j in journals if j])"),
     ("lines end like a typewriter's", "map(str, parts)) + \"\\n\"", "map(str, parts)) + \"\\r\\n\""),
 ]
 
-TRIALS = (make_books_trial.CRATE, trial.Trial, WRONG_BOOKS), (make_list_trial.CRATE, make_list_trial.Trial, WRONG_LISTS)
+WRONG = {"books": ("model.py", WRONG_BOOKS), "list": ("model.py", WRONG_LISTS), "cases": ("program_model.py", WRONG_PROGRAMS)}
 
 
 def broken(name, old, new):
@@ -174,67 +183,55 @@ def broken(name, old, new):
     return module
 
 
-def lines(script, state):
-    """What a trial prints by a model; where that breaks off, a line that no trial has."""
-    at = 0
-    while at < len(script):
-        code, size = struct.unpack_from("<BH", script, at)
-        at += 3 + size
-        if at > len(script):
-            yield trial.BROKEN
-            return
-        try:
-            yield from state.printed(code, script[at - size:at]).splitlines(keepends=True)
-        except Exception as error:
-            yield f"{chr(code)} broke off: {error!r}\n"
-            return
-
-
-def bite(crate, state_of, wrong):
-    """Every wrong model through the trial of a crate."""
-    with open(trial.crate_file(crate, "stdin"), "rb") as file:
-        script = file.read()
-    with open(trial.crate_file(crate, "stdout")) as file:
-        right = file.readlines()
-    for name, old, new in wrong:
-        printed = lines(script, state_of(broken("model.py", old, new)))
-        told = next(((n, a, b) for n, (a, b) in enumerate(zip(right, printed), 1) if a != b), None)
-        if told is None:
-            sys.exit(f"{name}: no line tells")
-        print(f"{name}: line {told[0]} is `{told[2].strip()}` and not `{told[1].strip()}`", flush=True)
-    print(f"{crate}: {len(wrong)} wrong models, and each is found")
-
-
-def answer(program, stdin, ask):
+def answer(do, *args):
+    """What a broken model says; where that breaks off, a line that nothing prints."""
     try:
-        return program.printed(stdin, ask)
+        return do(*args)
     except Exception as error:
-        return f"broke off: {error!r}".encode()
+        return f"broke off: {error!r}\n"
 
 
-def bite_cases():
-    """Every wrong program through the stored cases, the short ones first."""
-    files = make_cases.stored()
-    names = sorted((name for name in files if os.path.basename(name) == "stdin"), key=lambda name: (len(files[name]), name))
-    for what, old, new in WRONG_PROGRAMS:
-        program = broken("program_model.py", old, new)
-        told = next((name for name in map(os.path.dirname, names)
-                     if answer(program, files[f"{name}/stdin"], files.get(f"{name}/ask.bin")) != files[f"{name}/stdout"]), None)
+def telling_line(calls, scripts):
+    """The first line that a broken model of the calls prints otherwise."""
+    for part, lines, printed in scripts:
+        state = trial.Trial(calls)
+        for n, (line, right) in enumerate(zip(lines, printed), 1):
+            seen = answer(state.line, line)
+            if seen != right:
+                return f"{part}, line {n} is `{seen.strip()[-90:]}` and not `{right.strip()[-90:]}`"
+    return None
+
+
+def telling_case(program, cases):
+    """The first case, of the short ones first, whose text a broken program prints otherwise."""
+    return next((name for name, stdin, ask, right in cases if answer(program.printed, stdin, ask) != right), None)
+
+
+def scripts_of(kind):
+    """What the wrong models of a kind are tried on: the short ones first."""
+    if kind == "cases":
+        return sorted(((name, stdin, ask, program_model.printed(stdin, ask)) for name, (stdin, ask) in named_cases.CASES.items()),
+                      key=lambda case: len(case[1]))
+    made = [(name, *run_parts.made(name)) for name in run_parts.PARTS if name.startswith(kind)]
+    return sorted(((name, script.decode().splitlines(), due.decode().splitlines(keepends=True)) for name, script, due in made),
+                  key=lambda part: len(part[1]))
+
+
+def bite(kind):
+    """Every wrong model of a kind."""
+    file, wrong = WRONG[kind]
+    scripts, tells = scripts_of(kind), telling_case if kind == "cases" else telling_line
+    for name, old, new in wrong:
+        told = tells(broken(file, old, new), scripts)
         if told is None:
-            sys.exit(f"{what}: no case tells")
-        print(f"{what}: the case {told} tells", flush=True)
-    print(f"cases: {len(WRONG_PROGRAMS)} wrong programs, and each is found")
-
-
-def main(names):
-    for crate, state_of, wrong in TRIALS:
-        if names in ([], [crate]):
-            bite(crate, state_of, wrong)
-    if names in ([], ["cases"]):
-        bite_cases()
+            sys.exit(f"{name}: nothing tells")
+        print(f"{kind}, {name}: {told}", flush=True)
+    return f"{kind}: {len(wrong)} wrong models, and each is found"
 
 
 if __name__ == "__main__":
-    if sys.argv[1:] not in ([], ["cases"], *([crate] for crate, _, _ in TRIALS)):
+    if not set(sys.argv[1:]) <= set(WRONG):
         sys.exit(__doc__)
-    main(sys.argv[1:])
+    with concurrent.futures.ProcessPoolExecutor(os.cpu_count()) as pool:
+        for found in pool.map(bite, sys.argv[1:] or WRONG):
+            print(found)

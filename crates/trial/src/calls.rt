@@ -1,98 +1,80 @@
-// The commands that are calls of the books: each makes its call and prints what that answers. Each answers whether the
-// command has the arguments that it takes.
+// The commands that are calls of the books: each makes its call and prints what that answers.
 
-use crate::code::APPEND;
-use crate::code::CHECK;
-use crate::code::CLEAR;
-use crate::code::JOURNAL_COUNT;
-use crate::code::OPEN;
-use crate::code::ROW_RECORD;
-use crate::code::TABLE_COUNT;
-use crate::digest::fnv;
-use crate::number::eight_bytes;
-use crate::number::wide;
-use crate::print::line;
+use crate::print::answer;
+use crate::print::field;
+use crate::print::wide;
+use books::number::DONE;
 
-fn clear(args: &[u8], journals: &mut [u8], rows: &mut [u8]) -> bool {
-    if args.len() != 0 {
-        return false;
-    }
-    let number = books::clear(journals, rows);
-    line(CLEAR, &[wide(number)]);
-    true
+// The number that a row of appends ended with, and how many steps were taken.
+struct Appended {
+    number: u8,
+    taken: usize,
 }
 
-fn open(args: &[u8], journals: &mut [u8], rows: &mut [u8]) -> bool {
-    if args.len() != 0 {
-        return false;
+// Appends steps up to the first that is refused.
+fn append_all(steps: &[u8], journals: &mut [u8], rows: &mut [u8]) -> Appended {
+    let mut taken = 0;
+    while taken < steps.len() {
+        let number = books::append(journals, rows, steps[taken]);
+        if number != DONE {
+            return Appended { number, taken };
+        }
+        taken += 1;
     }
+    Appended {
+        number: DONE,
+        taken,
+    }
+}
+
+pub(crate) fn clear(journals: &mut [u8], rows: &mut [u8]) {
+    answer(books::clear(journals, rows));
+}
+
+pub(crate) fn append(steps: &[u8], journals: &mut [u8], rows: &mut [u8]) {
+    let appended = append_all(steps, journals, rows);
+    answer(appended.number);
+    field(b", taken ", appended.taken as u64);
+}
+
+// Opens a journal; where steps are given, it is opened with these.
+pub(crate) fn open(steps: &[u8], journals: &mut [u8], rows: &mut [u8]) {
     let number = books::open(journals, rows);
-    line(OPEN, &[wide(number)]);
-    true
-}
-
-fn append(args: &[u8], journals: &mut [u8], rows: &mut [u8]) -> bool {
-    if args.len() != 1 {
-        return false;
+    if number != DONE {
+        answer(number);
+        return;
     }
-    let number = books::append(journals, rows, args[0]);
-    line(APPEND, &[wide(number)]);
-    true
+    append(steps, journals, rows);
 }
 
-fn table_count(word: &[u8], rows: &[u8]) -> bool {
+pub(crate) fn table(word: &[u8], rows: &[u8]) {
     let counted = books::table_count(rows, word);
-    line(TABLE_COUNT, &[wide(counted.number), wide(counted.count)]);
-    true
+    answer(counted.number);
+    field(b", count ", wide(counted.count));
 }
 
-fn journal_count(record: &[u8], journals: &[u8]) -> bool {
-    let counted = books::journal_count(journals, record);
-    line(JOURNAL_COUNT, &[wide(counted.number), wide(counted.count)]);
-    true
+pub(crate) fn count(word: &[u8], journals: &[u8]) {
+    let counted = books::journal_count(journals, word);
+    answer(counted.number);
+    field(b", count ", wide(counted.count));
 }
 
-fn check(args: &[u8], journals: &[u8], rows: &[u8]) -> bool {
-    if args.len() != 0 {
-        return false;
-    }
+pub(crate) fn check(journals: &[u8], rows: &[u8]) {
     let checked = books::check(journals, rows);
-    line(
-        CHECK,
-        &[
-            wide(checked.number),
-            wide(checked.book),
-            checked.at as u64,
-            checked.byte as u64,
-        ],
-    );
-    true
+    answer(checked.number);
+    field(b", book ", wide(checked.book));
+    field(b", record ", checked.at as u64);
+    field(b", byte ", checked.byte as u64);
 }
 
-fn row_record(args: &[u8], rows: &[u8]) -> bool {
-    if args.len() != 8 {
-        return false;
-    }
-    let n = eight_bytes(args);
-    let number = books::row_record_number(rows, n);
-    let record = books::row_record(rows, n);
-    line(
-        ROW_RECORD,
-        &[wide(number), record.len() as u64, fnv(record)],
-    );
-    true
+pub(crate) fn journals(journals: &[u8]) {
+    let opened = books::open_journals(journals);
+    answer(opened.number);
+    field(b", ", opened.journals as u64);
 }
 
-// Carries out a call on the bytes that are lent. Answers whether the command is one.
-pub(crate) fn call(code: u8, args: &[u8], journals: &mut [u8], rows: &mut [u8]) -> bool {
-    match code {
-        CLEAR => clear(args, journals, rows),
-        OPEN => open(args, journals, rows),
-        APPEND => append(args, journals, rows),
-        TABLE_COUNT => table_count(args, rows),
-        JOURNAL_COUNT => journal_count(args, journals),
-        CHECK => check(args, journals, rows),
-        ROW_RECORD => row_record(args, rows),
-        _ => false,
-    }
+pub(crate) fn rows(journals: &[u8], rows: &[u8]) {
+    let live = books::live_rows(journals, rows);
+    answer(live.number);
+    field(b", ", live.rows as u64);
 }

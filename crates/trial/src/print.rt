@@ -1,40 +1,68 @@
-// One printed line, put together before it is written.
+// What is printed behind a command.
 
 use libc::STDOUT_FILENO;
-ghost use Prim.Native.Nat.{_+_, _≤_};
+ghost use Prim.Native.Nat.{_≤_, _<_};
 ghost use lib.ListN.{length};
 
-// The bytes of the longest line: a code, sixteen numbers of 20 digits with a space before each, and the line's end.
-const LINE: usize = 338;
+// From so many equal numbers on they are printed as a repeat.
+const MANY: usize = 5;
 
-// Puts a space and a number's digits into a line. Answers where they end.
-fn put_number(text: &mut [u8], at: usize, number: u64) -> usize
-    requires { ⌜ at + 21 ≤ length (now text) ⌝ }
-    ensures { λ r. ⌜ r ≤ at + 21 ⌝ }
-{
-    let mut digits = [0u8; 20];
-    let n = io::decimal(number, &mut digits);
-    text[at] = b' ';
-    let mut i = 0;
-    while i < n {
-        text[at + 1 + i] = digits[i];
-        i += 1;
-    }
-    at + 1 + n
+// A byte as a number to print.
+pub(crate) fn wide(byte: u8) -> u64 {
+    byte as u64
 }
 
-// Prints a code and up to sixteen numbers.
-pub fn line(code: u8, numbers: &[u64])
-    requires { ⌜ length (now numbers) ≤ 16 ⌝ }
+// Prints a text.
+pub(crate) fn say(text: &[u8]) {
+    io::write_all(STDOUT_FILENO, text);
+}
+
+// Prints a text and a number behind it.
+pub(crate) fn field(name: &[u8], number: u64) {
+    say(name);
+    io::print_decimal(STDOUT_FILENO, number);
+}
+
+// Prints the number that a call answers.
+pub(crate) fn answer(number: u8) {
+    field(b" -> ", wide(number));
+}
+
+// Where the run of equal bytes that begins at a place ends.
+fn run_end(bytes: &[u8], at: usize) -> usize
+    requires { ⌜ at < length (now bytes) ⌝ }
+    ensures { λ r. ⌜ (at < r) × (r ≤ length (now (bytes .entry))) ⌝ }
 {
-    let mut text = [0u8; LINE];
-    text[0] = code;
-    let mut end = 1;
-    let mut i = 0;
-    while i < numbers.len() {
-        end = put_number(&mut text, end, numbers[i]);
-        i += 1;
+    let mut end = at + 1;
+    while end < bytes.len() {
+        if bytes[end] != bytes[at] {
+            return end;
+        }
+        end += 1;
     }
-    text[end] = b'\n';
-    io::write_all(STDOUT_FILENO, &text[..end + 1]);
+    end
+}
+
+// Prints the byte at a place, with the run that begins there if it is long. Answers where what is printed ends.
+fn print_run(bytes: &[u8], at: usize) -> usize
+    requires { ⌜ at < length (now bytes) ⌝ }
+    ensures { λ r. ⌜ (at < r) × (r ≤ length (now (bytes .entry))) ⌝ }
+{
+    let end = run_end(bytes, at);
+    let times = end - at;
+    if times < MANY {
+        field(b" ", wide(bytes[at]));
+        return at + 1;
+    }
+    field(b" ", times as u64);
+    field(b"*", wide(bytes[at]));
+    end
+}
+
+// Prints bytes as a script has them.
+pub(crate) fn print_bytes(bytes: &[u8]) {
+    let mut at = 0;
+    while at < bytes.len() {
+        at = print_run(bytes, at);
+    }
 }

@@ -1,19 +1,25 @@
-// The commands on the room of a book. Each answers whether the command has the arguments that it takes.
+// The rooms of the books and of the output, and the commands on them. Each answers whether its numbers fit.
 
-use crate::code::DIGEST;
-use crate::code::LEND;
-use crate::code::WRITE;
-use crate::digest::fnv;
-use crate::number::two_bytes;
-use crate::print::line;
+use crate::digest::digest;
+use crate::print::field;
+use records::JOURNAL_BOOK;
+use records::JOURNAL_RECORD;
+use records::ROW_BOOK;
+use records::ROW_RECORD;
+use records::WORD_RECORD;
 
-// The journal book and the row book, as the script and the check number them.
-const BOOK_1: u8 = 1;
+// The room of each book: one record more than the book, so that a book can be lent too long, and a write behind it shows.
+pub(crate) const JOURNAL_ROOM: usize = JOURNAL_BOOK + JOURNAL_RECORD;
 
-const BOOK_2: u8 = 2;
+pub(crate) const ROW_ROOM: usize = ROW_BOOK + ROW_RECORD;
 
-// Puts bytes into a room from a byte on. Answers whether they fit.
-fn copy_in(bytes: &[u8], room: &mut [u8], at: usize) -> bool {
+// The room of the output: two records more than the largest output, for the same two ends.
+pub(crate) const LARGEST_OUTPUT: usize = 65536;
+
+pub(crate) const OUTPUT_ROOM: usize = LARGEST_OUTPUT + 2 * WORD_RECORD;
+
+// Puts bytes into a room from a place on. Answers whether they fit.
+fn put(bytes: &[u8], room: &mut [u8], at: usize) -> bool {
     if room.len() < at {
         return false;
     }
@@ -28,48 +34,51 @@ fn copy_in(bytes: &[u8], room: &mut [u8], at: usize) -> bool {
     true
 }
 
-// Puts bytes into the room of a book.
-fn put_into(book: u8, bytes: &[u8], at: usize, journals: &mut [u8], rows: &mut [u8]) -> bool {
-    match book {
-        BOOK_1 => copy_in(bytes, journals, at),
-        BOOK_2 => copy_in(bytes, rows, at),
+// Writes bytes into the room of a book: 1, the journal book, or 2, the row book.
+pub(crate) fn write(
+    asked: &[usize; 3],
+    bytes: &[u8],
+    journals: &mut [u8],
+    rows: &mut [u8],
+) -> bool {
+    match asked[0] {
+        1 => put(bytes, journals, asked[1]),
+        2 => put(bytes, rows, asked[1]),
         _ => false,
     }
 }
 
-// Writes bytes into a book, wherever they fit its room.
-pub(crate) fn write(args: &[u8], journals: &mut [u8], rows: &mut [u8]) -> bool {
-    if args.len() < 3 {
-        return false;
-    }
-    let at = two_bytes(args[1], args[2]);
-    let fits = put_into(args[0], &args[3..], at, journals, rows);
-    if fits {
-        line(WRITE, &[]);
-    }
-    fits
-}
-
-// Sets how many bytes of a book are lent.
-pub(crate) fn lend(args: &[u8], lent: &mut [usize; 2]) -> bool {
-    if args.len() != 3 {
-        return false;
-    }
-    let n = two_bytes(args[1], args[2]);
-    match args[0] {
-        BOOK_1 => lent[0] = n,
-        BOOK_2 => lent[1] = n,
+// Sets how many bytes of a book's room are lent.
+pub(crate) fn lend(asked: &[usize; 3], lent: &mut [usize; 2]) -> bool {
+    match asked[0] {
+        1 => lent[0] = asked[1],
+        2 => lent[1] = asked[1],
         _ => return false,
     }
-    line(LEND, &[]);
     true
 }
 
-// Prints the digest of each room.
-pub(crate) fn digest(args: &[u8], journals: &[u8], rows: &[u8]) -> bool {
-    if args.len() != 0 {
+// Makes every byte the same.
+fn fill_with(byte: u8, output: &mut [u8]) {
+    let mut i = 0;
+    while i < output.len() {
+        output[i] = byte;
+        i += 1;
+    }
+}
+
+// Fills the room of the output with one byte.
+pub(crate) fn fill(bytes: &[u8], output: &mut [u8]) -> bool {
+    if bytes.len() != 1 {
         return false;
     }
-    line(DIGEST, &[fnv(journals), fnv(rows)]);
+    fill_with(bytes[0], output);
+    true
+}
+
+// Prints the digest of each book's room.
+pub(crate) fn print_digests(journals: &[u8], rows: &[u8]) -> bool {
+    field(b" -> ", digest(journals));
+    field(b" ", digest(rows));
     true
 }

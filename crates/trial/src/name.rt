@@ -1,0 +1,115 @@
+// The names of the commands, and what each takes.
+
+use crate::text::same;
+
+pub(crate) const NONE: u8 = 0;
+
+pub(crate) const CLEAR: u8 = 1;
+
+pub(crate) const OPEN: u8 = 2;
+
+pub(crate) const APPEND: u8 = 3;
+
+pub(crate) const TABLE: u8 = 4;
+
+pub(crate) const COUNT: u8 = 5;
+
+pub(crate) const CHECK: u8 = 6;
+
+pub(crate) const ROW: u8 = 7;
+
+pub(crate) const LIST: u8 = 8;
+
+pub(crate) const AFTER: u8 = 9;
+
+pub(crate) const WRITE: u8 = 10;
+
+pub(crate) const LEND: u8 = 11;
+
+pub(crate) const FILL: u8 = 12;
+
+pub(crate) const DIGEST: u8 = 13;
+
+pub(crate) const JOURNALS: u8 = 14;
+
+pub(crate) const ROWS: u8 = 15;
+
+// The command on the rooms that has this name.
+fn room_code(name: &[u8]) -> u8 {
+    if same(name, b"write") {
+        return WRITE;
+    }
+    if same(name, b"lend") {
+        return LEND;
+    }
+    if same(name, b"fill") {
+        return FILL;
+    }
+    if same(name, b"digest") {
+        return DIGEST;
+    }
+    NONE
+}
+
+// The command that reads the books and has this name.
+fn reading_code(name: &[u8]) -> u8 {
+    if same(name, b"table") {
+        return TABLE;
+    }
+    if same(name, b"count") {
+        return COUNT;
+    }
+    if same(name, b"check") {
+        return CHECK;
+    }
+    if same(name, b"row") {
+        return ROW;
+    }
+    if same(name, b"list") {
+        return LIST;
+    }
+    if same(name, b"after") {
+        return AFTER;
+    }
+    room_code(name)
+}
+
+// The command that has this name.
+pub(crate) fn code(name: &[u8]) -> u8 {
+    if same(name, b"clear") {
+        return CLEAR;
+    }
+    if same(name, b"open") {
+        return OPEN;
+    }
+    if same(name, b"append") {
+        return APPEND;
+    }
+    if same(name, b"journals") {
+        return JOURNALS;
+    }
+    if same(name, b"rows") {
+        return ROWS;
+    }
+    reading_code(name)
+}
+
+// How many numbers stand before a command's bytes.
+pub(crate) fn heads(code: u8) -> usize {
+    match code {
+        ROW => 1,
+        WRITE | LEND => 2,
+        LIST | AFTER => 3,
+        _ => 0,
+    }
+}
+
+// Whether a command takes so many bytes.
+pub(crate) fn takes(code: u8, bytes: usize) -> bool {
+    match code {
+        NONE => false,
+        CLEAR | CHECK | ROW | JOURNALS | ROWS | LEND | DIGEST => bytes == 0,
+        FILL => bytes == 1,
+        _ => true,
+    }
+}
