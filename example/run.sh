@@ -11,4 +11,4 @@ if [ ! -x "$program" ] || [ -n "$(find crates crates.txt -newer "$program" -prin
 fi
 
 cd example
-"../$program" <entries.bin
+bash program.sh "../$program" <entries.bin

@@ -1,25 +1,16 @@
 #!/usr/bin/env bash
-# The tests of the Rust crates, against the proved library. Builds the static library first where it
-# is missing, or older than a source of it; or takes it from the folder that SELQUORIN_LIB names. Its
-# last line is 'rust: N passed, M failed', summed over cargo's result lines; its status is not 0 if
+# The tests of the Rust crates, against the proved library, which archive.sh makes; or against that in the folder that
+# SELQUORIN_LIB names. Its last line is 'rust: N passed, M failed', summed over cargo's result lines; its status is not 0 if
 # anything failed.
 set -u
-if [ -n "${SELQUORIN_LIB:-}" ]; then
-  SELQUORIN_LIB=$(cd "$SELQUORIN_LIB" && pwd) || exit 2
-  export SELQUORIN_LIB
-fi
-cd "$(dirname "$0")/.." || exit 2
-
-archive=target/staticlib/libselquorin.a
-if [ -z "${SELQUORIN_LIB:-}" ]; then
-  if [ ! -f "$archive" ] || [ -n "$(find crates crates.txt -newer "$archive" -print -quit)" ]; then
-    rt staticlib selquorin || { echo 'rust: the static library was not built'; exit 1; }
-  fi
-fi
+cd "$(dirname "$0")" || exit 2
+SELQUORIN_LIB=$(if [ -n "${SELQUORIN_LIB:-}" ]; then cd "$OLDPWD" && cd "$SELQUORIN_LIB" && pwd; else bash archive.sh; fi) ||
+  { echo 'rust: the static library was not built'; exit 1; }
+export SELQUORIN_LIB
 
 log=$(mktemp) || exit 2
 trap 'rm -f "$log"' EXIT
-(cd rust && cargo test --release --offline --no-fail-fast) 2>&1 | tee "$log"
+cargo test --release --offline --no-fail-fast 2>&1 | tee "$log"
 status=${PIPESTATUS[0]}
 
 counts=$(awk '/^test result: / {

@@ -22,6 +22,7 @@ import time
 import tty
 from functools import lru_cache
 
+import built
 import kept
 import named_cases
 import program_model
@@ -114,7 +115,7 @@ def run(program, ask, stdin, stdout, drain=None, pause=0.0, before=None, signals
         work.append(lambda: write_end(mine, pieces, pause))
     with tempfile.TemporaryDirectory() as folder:
         put_ask(os.path.join(folder, "ask.bin"), ask)
-        child = subprocess.Popen([program], cwd=folder, stdin=stdin, stdout=stdout, stderr=subprocess.PIPE, preexec_fn=before)
+        child = subprocess.Popen(program, cwd=folder, stdin=stdin, stdout=stdout, stderr=subprocess.PIPE, preexec_fn=before)
         for end in stdin, stdout:
             os.close(end)
         beside = [threading.Thread(target=each, daemon=True) for each in work]
@@ -325,4 +326,4 @@ if __name__ == "__main__":
         sys.exit(__doc__)
     if sys.argv[1] == "--keep":
         sys.exit(kept.keep([part(name)[1] for name in ("cases named", "cases random")]))
-    sys.exit(main(os.path.abspath(sys.argv[1])))
+    sys.exit(main(built.words(sys.argv[1])))

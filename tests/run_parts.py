@@ -13,6 +13,7 @@ import subprocess
 import sys
 
 import books_parts
+import built
 import kept
 import list_parts
 import trial
@@ -51,7 +52,7 @@ def difference(seen, due):
 
 def wrong_run(program, script, due):
     """What a run does wrong, or None."""
-    ran = subprocess.run([program], input=script, capture_output=True, timeout=MOST_SECONDS)
+    ran = subprocess.run(program, input=script, capture_output=True, timeout=MOST_SECONDS)
     if ran.returncode or ran.stderr:
         return f"ended with {ran.returncode}, {ran.stderr[:60]!r}"
     return None if ran.stdout == due else difference(ran.stdout, due)
@@ -87,4 +88,4 @@ if __name__ == "__main__":
     every = [*PARTS, BROKEN_LINES]
     if len(sys.argv) < 2 or not set(sys.argv[2:]) <= set(every):
         sys.exit(__doc__)
-    sys.exit(main(None if sys.argv[1] == "--keep" else os.path.abspath(sys.argv[1]), sys.argv[2:] or every))
+    sys.exit(main(None if sys.argv[1] == "--keep" else built.words(sys.argv[1]), sys.argv[2:] or every))

@@ -1,0 +1,41 @@
+#!/usr/bin/env bash
+# Makes the static library where it is missing, or older than a source of it, and prints the folder that has it.
+# The kit's archive is for x86-64. On another processor the same proved crates are compiled once more, for that one, so that
+# the Rust crates and the example in C can be run there too: the kit is told of a compiler that is its own but for the target.
+set -eu
+cd "$(dirname "$0")/.."
+
+machine=$(uname -m)
+folder=target/staticlib
+[ "$machine" = x86_64 ] || folder=target/staticlib-$machine
+archive=$folder/libselquorin.a
+if [ -f "$archive" ] && [ -z "$(find crates crates.txt -newer "$archive" -print -quit)" ]; then
+  echo "$PWD/$folder"
+  exit
+fi
+
+rt staticlib selquorin >&2
+if [ "$machine" != x86_64 ]; then
+  kit=$(dirname "$(dirname "$(rt doc)")")
+  own=$(mktemp -d)
+  trap 'rm -rf "$own"' EXIT
+  tools=on/$machine/toolchain
+  mkdir -p "$own/$tools/bin"
+  for entry in "$kit"/* "$kit/on/$machine"/* "$kit/$tools"/* "$kit/$tools/bin"/*; do
+    [ -e "$own/${entry#"$kit"/}" ] || ln -s "$entry" "$own/${entry#"$kit"/}"
+  done
+  rm "$own/$tools/bin/clang"
+  {
+    echo '#!/usr/bin/env bash'
+    echo "words=(--target=$machine-unknown-linux-gnu -Wno-override-module)"
+    echo 'for word; do case $word in --target=* | -march=*) ;; *) words+=("$word") ;; esac; done'
+    echo "exec '$kit/$tools/bin/clang' \"\${words[@]}\""
+  } >"$own/$tools/bin/clang"
+  chmod +x "$own/$tools/bin/clang"
+  mv target/staticlib/libselquorin.a "$own/kept"
+  RATTLE_HOME=$own rt staticlib selquorin >&2
+  mkdir -p "$folder"
+  mv target/staticlib/libselquorin.a "$archive"
+  mv "$own/kept" target/staticlib/libselquorin.a
+fi
+echo "$PWD/$folder"
