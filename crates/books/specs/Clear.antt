@@ -28,6 +28,6 @@ zeros b = replicate (length b) 0
 abbrev pub leaves : ℕ → List ℕ → List ℕ → List ℕ → List ℕ → After
 leaves n newJ newR jb rb = record { number = n; journals = unless n newJ jb; rows = unless n newR rb }
 
--- Clear makes every byte of both books zero.
+-- Clear leaves zeros alone in both books.
 unfoldable pub clearCall : List ℕ → List ℕ → After
 clearCall jb rb = leaves (first (clearRefusals jb rb)) (zeros jb) (zeros rb) jb rb

@@ -8,7 +8,7 @@ use mathlib.Core.List.{List, [], _∷_}
 abbrev pub done : ℕ
 done = 0
 
--- 1: a book, a word record or the list's output has the wrong size
+-- 1: something lent has a size that it can't have
 abbrev pub wrongSize : ℕ
 wrongSize = 1
 
@@ -28,7 +28,7 @@ noJournal = 4
 abbrev pub journalFull : ℕ
 journalFull = 5
 
--- 6: after the append there would be more than 1,000 live states
+-- 6: the appended step would need a 1,001st row
 abbrev pub rowsFull : ℕ
 rowsFull = 6
 
@@ -44,7 +44,7 @@ wrongQuorum = 8
 abbrev pub wrongLength : ℕ
 wrongLength = 9
 
--- 10: a word record of wrong form, or longer than the list length
+-- 10: a word record without its form, or whose word exceeds the list length
 abbrev pub wrongWord : ℕ
 wrongWord = 10
 
@@ -52,11 +52,11 @@ wrongWord = 10
 abbrev pub brokenEntry : ℕ
 brokenEntry = 11
 
--- 12: the program: an ask file of 1 byte, or of 3 or more
+-- 12: the program's ask file has neither 0 nor 2 bytes
 abbrev pub wrongAsk : ℕ
 wrongAsk = 12
 
--- 13: a row number of 1,000 or more
+-- 13: no row has this number: it is above 999
 abbrev pub wrongRow : ℕ
 wrongRow = 13
 

@@ -14,10 +14,10 @@ rowRecordRefusals b r =
     ∷ record { holds = leb mostRows r; number = wrongRow }
     ∷ []
 
--- Its number comes from a second call with the same input.
+-- its number, which a second call answers
 unfoldable pub rowRecordNumberCall : List ℕ → ℕ → ℕ
 rowRecordNumberCall b r = first (rowRecordRefusals b r)
 
--- Row record gives back those 64 bytes of the caller's row book themselves; a refusal gives back a part of length 0.
+-- Row record: the row's 64 bytes, as they stand in the lent book; nothing where it is refused.
 unfoldable pub rowRecordCall : List ℕ → ℕ → List ℕ
 rowRecordCall b r = unless (rowRecordNumberCall b r) (take rowRecordSize (drop (rowRecordSize * r) b)) []

@@ -19,7 +19,7 @@ isDamage (Row r) = false
 isDamage Nowhere = false
 isDamage Damage = true
 
--- The answer is the last row's count byte.
+-- the count byte of the row where the walk ended
 abbrev pub countOf : List ℕ → Walked → ℕ
 countOf b (Row r) = countAt b r
 countOf b Nowhere = 0
@@ -33,7 +33,7 @@ tableCountRefusals b w =
     ∷ record { holds = isDamage (walk b w); number = damaged }
     ∷ []
 
--- A refusal returns its number with every other number zero.
+-- with a refusal the count is 0
 abbrev pub counted : ℕ → ℕ → Counted
 counted n c = record { number = n; count = unless n c 0 }
 

@@ -149,7 +149,7 @@ pub fn check(journals: &[u8], rows: &[u8]) -> Checked
     seen.says
 }
 
-// The 64 bytes of a row record, as a part of the lent row book itself; a part of length 0 where the row's number is refused.
+// The 64 bytes of a row, handed back where they stand in the lent book; none of them where the row's number is refused.
 pub fn row_record(rows: &[u8], row: usize) -> &[u8]
     ensures { λ r. ⌜ now r ≡ rowRecordCall (now (rows .entry)) row ⌝ }
 {

@@ -3,7 +3,7 @@
 // Done.
 pub const DONE: u8 = 0;
 
-// A book, a word record or the list's output has the wrong size.
+// Something lent has a size that it can't have.
 pub const WRONG_SIZE: u8 = 1;
 
 // The books are damaged.
@@ -18,7 +18,7 @@ pub const NO_JOURNAL: u8 = 4;
 // The last journal has 200 steps.
 pub const JOURNAL_FULL: u8 = 5;
 
-// After the append there would be more than 1,000 live states.
+// The appended step would need a 1,001st row.
 pub const ROWS_FULL: u8 = 6;
 
 // 16 journals are open already.
@@ -30,14 +30,14 @@ pub const WRONG_QUORUM: u8 = 8;
 // List length above 15.
 pub const WRONG_LENGTH: u8 = 9;
 
-// A word record of wrong form, or longer than the list length.
+// A word record without its form, or whose word exceeds the list length.
 pub const WRONG_WORD: u8 = 10;
 
 // The program: a broken journal entry.
 pub const BROKEN_ENTRY: u8 = 11;
 
-// The program: an ask file of 1 byte, or of 3 or more.
+// The program's ask file has neither 0 nor 2 bytes.
 pub const WRONG_ASK: u8 = 12;
 
-// A row number of 1,000 or more.
+// No row has this number: it is above 999.
 pub const WRONG_ROW: u8 = 13;

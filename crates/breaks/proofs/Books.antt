@@ -158,7 +158,7 @@ single-has-a-step : 0 < stepsAt (lastOf (journalsOf (journalBook single))) (jour
 unfolding journalsOf journalBook journalRecord stepBytes
 single-has-a-step = omega arith
 
--- One that handles the first step and then only says "done".
+-- An append that takes a journal's first step, and of the later ones says only that they are done.
 pub append-first-step-only : (f : List ℕ → List ℕ → ℕ → After)
     → ((jb rb : List ℕ) (s : ℕ) → 0 < stepsAt (lastOf (journalsOf jb)) (journalsOf jb) → f jb rb s ≡ record { number = 0; journals = jb; rows = rb })
     → ((jb rb : List ℕ) (s : ℕ) → f jb rb s ≡ appendCall jb rb s) → ⊥

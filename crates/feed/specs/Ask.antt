@@ -25,7 +25,7 @@ limitRefusals k quorum limit =
     ∷ record { holds = ltb quorum 1 || ltb k quorum; number = wrongQuorum }
     ∷ []
 
--- an ask file of 1 byte, or of 3 or more: 12; then those
+-- neither empty nor of two bytes: 12; then those
 abbrev pub askRefusals : ℕ → List ℕ → List Refusal
 askRefusals k ask =
     record { holds = not (eqb (length ask) 0 || eqb (length ask) 2); number = wrongAsk } ∷ limitRefusals k (quorumOf k ask) (lengthOf ask)

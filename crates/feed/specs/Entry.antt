@@ -22,7 +22,7 @@ openAppend jb rb s =
     let a : After = appendCall (o .journals) (o .rows) s in
     cond (eqb (o .number) done) a o
 
--- An entry that opens and appends is taken whole or not at all: if its append is refused, the journal isn't opened.
+-- both, or neither where one of them is refused
 unfoldable pub openAppendWhole : List ℕ → List ℕ → ℕ → After
 openAppendWhole jb rb s = let a : After = openAppend jb rb s in leaves (a .number) (a .journals) (a .rows) jb rb
 
@@ -49,7 +49,7 @@ pub record AfterFeeding : Type 0 where
 abbrev pub fed : Fed → List ℕ → List ℕ → AfterFeeding
 fed r jb rb = record { number = r .number; taken = r .taken; journals = jb; rows = rb }
 
--- the entries of two bytes, one by one, up to the first that is refused; a lone last byte is refused with 11
+-- the entries in their order, until one is refused; half an entry at the end is broken
 unfoldable pub feedFrom : ℕ → List ℕ → List ℕ → List ℕ → AfterFeeding
 feedFrom i jb rb [] = record { number = done; taken = i; journals = jb; rows = rb }
 feedFrom i jb rb (n ∷ []) = record { number = brokenEntry; taken = i; journals = jb; rows = rb }

@@ -19,7 +19,7 @@ pub struct Fed {
     pub taken: usize,
 }
 
-// Takes a row of entries one by one, up to the first that is refused.
+// Takes entries in their order until one is refused.
 pub fn feed(journals: &mut [u8], rows: &mut [u8], entries: &[u8]) -> Fed
     ensures { λ r. ⌜ fed r (now (journals .exit)) (now (rows .exit)) ≡ feedCall (now (journals .entry)) (now (rows .entry)) (now (entries .entry)) ⌝ }
 {

@@ -18,7 +18,7 @@ fn find(steps: &[u8], s: u8) -> usize
     i
 }
 
-// Whether a word is in a journal: the empty word is, and another is when its first step is found and the rest is in what follows.
+// Whether a word is in a journal: its first step is looked for, then its rest behind that, until no step is left.
 pub(crate) fn is_in(word: &[u8], journal: &[u8]) -> bool
     ensures { λ r. ⌜ r ≡ isIn (now (word .entry)) (now (journal .entry)) ⌝ }
 {

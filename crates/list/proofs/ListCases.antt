@@ -141,7 +141,7 @@ module _ (a : Asked) where
       quorum-wrong t = sym (behind ∙ rw (le-ltb 15 n h, sym quorum-said ∙ t))
 
       module _ (k : (ltb q 1 || ltb (tableOf rb []) q) ≡ false) where
-        -- a word of wrong form or longer than the list length
+        -- a word that is refused
         pub word-refused : after ≡ true → (eqb (journalCountCall jb r .number) 10 || ltb n (getD r 0 0)) ≡ true → 10 ≡ first (listRefusals a)
         word-refused y t = sym (behind ∙ rw (le-ltb 15 n h, sym quorum-said ∙ k, y, sym word-said ∙ t))
 

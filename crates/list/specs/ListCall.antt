@@ -18,11 +18,11 @@ use Rattle.list.specs.declared.Listed.{Listed}
 abbrev pub largestOutput : ℕ
 largestOutput = 65536
 
--- output: a multiple of 16, from 16 to 65,536
+-- an output takes whole word records, at least one and at most 4,096
 abbrev pub wrongOutput : List ℕ → Bool
 wrongOutput out = not (eqb (length out % wordRecordSize) 0) || (ltb (length out) wordRecordSize || ltb largestOutput (length out))
 
--- what the call is given: both books, a quorum, a length, "from the start" or "after this word", a word record and an output
+-- what the call is given: the books, a quorum and a length, where to begin (at the start, or behind a word), and an output
 pub record Asked : Type 0 where
   pub journals : List ℕ
   pub rows : List ℕ
@@ -43,7 +43,7 @@ asked jb rb q n after r out = record {
   out = out;
 }
 
--- List: 1, 2, 9, 8, 10. The word record's size is always tested, its content only for "after".
+-- List: 1, 2, 9, 8, 10. What the word record holds is looked at only where the list goes on after it.
 abbrev pub listRefusals : Asked → List Refusal
 listRefusals a =
     record { holds = not (rightSizes (a .journals) (a .rows)) || (not (eqb (length (a .word)) wordRecordSize) || wrongOutput (a .out)); number = wrongSize }
@@ -76,11 +76,11 @@ pub record Wrote : Type 0 where
 abbrev pub wrote : Listed → List ℕ → Wrote
 wrote r out = record { answer = r; out = out }
 
--- one record each, every word in its own 16 bytes of the output; bytes after the last one stay
+-- a record for each word, one behind the other; what stands behind them is left as it was
 abbrev pub written : List (List ℕ) → List ℕ → List ℕ
 written ws out = flat wordRecord ws ++ drop (wordRecordSize * length ws) out
 
--- It answers how many it wrote and whether a further word remains. A refusal writes nothing and says "no".
+-- The answer: how many words were written, and whether there are more. Refused, it writes none and says "no".
 unfoldable pub listCall : Asked → Wrote
 listCall a =
     let n : ℕ = first (listRefusals a) in

@@ -29,7 +29,7 @@ ghost use Rattle.list.specs.Moving.{stepsIn, moved, Fit, WordIfAfter};
 // The most bytes that an output may have.
 const LARGEST_OUTPUT: usize = 65536;
 
-// Whether an output has a size that is no multiple of 16 from 16 to 65,536.
+// Whether an output has no room for whole word records, for none, or for more than 4,096.
 fn wrong_output(out: &[u8]) -> bool
     ensures { λ r. ⌜ r ≡ wrongOutput (now (out .entry)) ⌝ }
 {

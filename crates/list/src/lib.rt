@@ -12,7 +12,7 @@ use page::write_page;
 ghost use mathlib.Core.Path.{_≡_};
 ghost use Rattle.list.specs.ListCall.{asked, wrote, listCall};
 
-// What the list answers: a number of document 01, how many words it wrote, and whether a further word remains.
+// What the list answers: a number of document 01, how many words were written, and whether there are more.
 pub struct Listed {
     pub number: u8,
     pub written: usize,

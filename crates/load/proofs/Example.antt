@@ -16,7 +16,7 @@ use Rattle.feed.specs.Ask.{askCall}
 use Rattle.text.specs.Text.{decimal, firstLine, wordLine, lastLine}
 use Rattle.load.specs.Program.{printed}
 
--- For the input 0,1 0,2 0,1 1,1 1,1 1,2 and ask bytes 2,3 it prints exactly:
+-- The worked example of the loading program: its text, line by line.
 example : printed (0 ∷ 1 ∷ 0 ∷ 2 ∷ 0 ∷ 1 ∷ 1 ∷ 1 ∷ 1 ∷ 1 ∷ 1 ∷ 2 ∷ []) (2 ∷ 3 ∷ []) ≡
     -- texts 2 rows 6
     116 ∷ 101 ∷ 120 ∷ 116 ∷ 115 ∷ 32 ∷ 50 ∷ 32 ∷ 114 ∷ 111 ∷ 119 ∷ 115 ∷ 32 ∷ 54 ∷ 10 ∷

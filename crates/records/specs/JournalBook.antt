@@ -1,4 +1,4 @@
--- The journal book: 4,096 bytes, 16 records of 256. Assumes nothing.
+-- The journal book: a record for each of 16 journals. Assumes nothing.
 use Prim.Native.Nat.{ℕ, zero, suc, _-_, _*_, _<_}
 use mathlib.Core.Path.{_≡_}
 use mathlib.Core.Logic.{_⊎_}
@@ -15,7 +15,7 @@ use Rattle.records.specs.StepBytes.{stepsOf, stepsForm, stepBytes}
 abbrev pub isOpen : List ℕ → Bool
 isOpen r = eqb (getD r 0 0) 1
 
--- Byte 1: length, 0 to 200. Bytes 2 to 201: the steps, zero beyond the length. Bytes 202 to 255: zero. A record that isn't open is all zero.
+-- An open record holds its length and its steps behind byte 0, and zeros behind them; any other holds zeros alone.
 abbrev pub recordForm : List ℕ → Bool
 recordForm r = cond (isOpen r) (stepsForm longestJournal (drop 1 r)) (allZero r)
 

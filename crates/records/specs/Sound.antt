@@ -16,7 +16,7 @@ use Rattle.records.specs.RowBook.{rowBook}
 abbrev pub rightSizes : List ℕ → List ℕ → Bool
 rightSizes jb rb = eqb (length jb) journalBookSize && eqb (length rb) rowBookSize
 
--- Books are sound when the journal book has its form, its journals have at most 1,000 live states, and the row book is their picture.
+-- Books are sound when the one has its form and the other is the picture of its journals, for which there is room.
 unfoldable pub sound : List ℕ → List ℕ → Bool
 sound jb rb = journalForm jb && (leb (length (picture (journalsOf jb))) mostRows && same rb (rowBook (journalsOf jb)))
 

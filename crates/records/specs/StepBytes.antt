@@ -8,7 +8,7 @@ use lib.Dec.{leb}
 use Rattle.words.specs.Limits.{stepCodes}
 use Rattle.records.specs.Bytes.{allBelow, allZero}
 
--- the steps that the bytes hold: a zero within the length is step 0
+-- the steps that the bytes hold, step 0 among them
 abbrev pub stepsOf : List ℕ → List ℕ
 stepsOf b = take (getD b 0 0) (drop 1 b)
 

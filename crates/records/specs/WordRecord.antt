@@ -1,4 +1,4 @@
--- The word record: 16 bytes, the length, 0 to 15, then the steps, zero beyond the length. A step above 15 makes its form wrong. Assumes nothing.
+-- The word record: a word's length, its steps, and zeros up to 16 bytes. Assumes nothing.
 use Prim.Native.Nat.{ℕ}
 use mathlib.Core.Bool.{Bool}
 use mathlib.Core.List.{List}

@@ -53,7 +53,7 @@ askName = 97 ∷ 115 ∷ 107 ∷ []
 unfoldable pub firstLine : ℕ → ℕ → List ℕ
 firstLine k rows = textsName ++ spaced (k ∷ []) ++ (space ∷ rowsName) ++ spaced (rows ∷ []) ++ (lineEnd ∷ [])
 
--- A word's line: its length, its count, its steps.
+-- A word's line: how long it is, how many journals show it, and which steps it has.
 unfoldable pub wordLine : ℕ → List ℕ → List ℕ
 wordLine count w = decimal (length w) ++ spaced (count ∷ w) ++ (lineEnd ∷ [])
 
@@ -61,10 +61,10 @@ wordLine count w = decimal (length w) ++ spaced (count ∷ w) ++ (lineEnd ∷ []
 unfoldable pub lastLine : ℕ → List ℕ
 lastLine words = endName ++ spaced (words ∷ []) ++ (lineEnd ∷ [])
 
--- A refused entry prints only `refused N record R`, R from 0.
+-- The line of a refused entry: its refusal's number, and how many entries came before it.
 unfoldable pub refusedEntryLine : ℕ → ℕ → List ℕ
 refusedEntryLine n r = refusedName ++ spaced (n ∷ []) ++ (space ∷ recordName) ++ spaced (r ∷ []) ++ (lineEnd ∷ [])
 
--- A refused ask prints only `refused N ask`.
+-- The line of a refused ask: its refusal's number.
 unfoldable pub refusedAskLine : ℕ → List ℕ
 refusedAskLine n = refusedName ++ spaced (n ∷ []) ++ (space ∷ askName) ++ (lineEnd ∷ [])

@@ -94,7 +94,7 @@ pub fn first_line(k: usize, rows: usize) -> Line
         .put(LINE_END)
 }
 
-// A word's line: its length, its count, its steps. A word longer than any that is listed has no line.
+// A word's line: how long it is, how many journals show it, and which steps it has. A word longer than any that is listed has none.
 pub fn word_line(count: u8, word: &[u8]) -> Line
     ensures { λ r. ⌜ r ≡ lineOf (cond (leb (length (now (word .entry))) longestWord) (wordLine count (now (word .entry))) []) ⌝ }
     ensures fits { λ r. ⌜ r .len ≤ lineSize ⌝ }

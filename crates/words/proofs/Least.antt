@@ -1,5 +1,5 @@
--- The place of a word is what document 01 says: the least place above that of the word without its last step. The search
--- for it looks at the steps one by one, so what it passed was another step. Assumes nothing.
+-- A word's place is the least one above that of its beginning, all but the last step, where that step stands. The search looks
+-- at the steps one by one, so what it passed was another step. Assumes nothing.
 use Prim.Native.Nat.{ℕ, zero, suc, _+_, _-_, _≤_, _<_}
 use native.Mathlib.Omega.{arith}
 use mathlib.Core.Path.{_≡_, refl, sym, _∙_}

@@ -1,5 +1,5 @@
--- A row's number is where it stands among the ascending rows: row 0 is the empty word's state, and an arc has the number of the row that its step
--- reaches, which is greater. Assumes nothing.
+-- A row's number is where it stands among the ascending rows. The empty word's row comes first, and an arc has the number of the row that its
+-- step reaches, which is greater. Assumes nothing.
 use Prim.Native.Nat.{ℕ, zero, suc, _+_, _≤_, _<_}
 use native.Mathlib.Omega.{arith}
 use mathlib.Core.Path.{_≡_, refl, sym, ap, _∙_}

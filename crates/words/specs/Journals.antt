@@ -3,7 +3,7 @@ use Prim.Native.Nat.{ℕ, zero, suc, _-_}
 use mathlib.Core.List.{List, [], _∷_, _++_}
 use lib.ListN.{length, getD}
 
--- Open adds an empty journal behind the others.
+-- After opening, a new empty journal comes last.
 unfoldable pub opened : List (List ℕ) → List (List ℕ)
 opened js = js ++ ([] ∷ [])
 
@@ -21,6 +21,6 @@ lastOf js = length js - 1
 abbrev pub stepsAt : ℕ → List (List ℕ) → ℕ
 stepsAt i js = length (getD js i [])
 
--- Append adds one step at the last journal's end.
+-- Appending makes the last journal one step longer.
 unfoldable pub appended : ℕ → List (List ℕ) → List (List ℕ)
 appended s js = appendedAt (lastOf js) s js

@@ -1,7 +1,7 @@
 -- The numbers of document 01 that words, journals and places speak of. Assumes nothing.
 use Prim.Native.Nat.{ℕ}
 
--- A step is a code 0 to 15.
+-- Step codes run from 0 to 15.
 abbrev pub stepCodes : ℕ
 stepCodes = 16
 

@@ -6,7 +6,7 @@ use mathlib.Core.List.{List, [], _∷_, List·Memᴰ}
 use lib.Dec.{ltb}
 
 -- Of states: compared as unsigned numbers from the first place on, so that lost is the greatest.
--- Of words, dictionary order: a word stands before its extensions; otherwise the lower step at the first difference comes first.
+-- Of words this is dictionary order: a beginning comes before what extends it, and where two words first differ the lower step decides.
 abbrev pub before : List ℕ → List ℕ → Bool
 before [] [] = false
 before [] (y ∷ b) = true

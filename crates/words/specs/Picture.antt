@@ -45,12 +45,12 @@ abbrev pub longest : List (List ℕ) → ℕ
 longest [] = zero
 longest (j ∷ js) = max (length j) (longest js)
 
--- The picture of k journals: one row for each live state, no state twice, in ascending order.
+-- The picture: each live state has one row, and the rows ascend.
 -- A word that is longer than every journal is live nowhere.
 unfoldable pub picture : List (List ℕ) → List (List ℕ)
 picture js = reach js (longest js)
 
--- The same as a relation: the rows are exactly the live states, no state twice, in ascending order.
+-- The same as a relation: a row for every live state and for nothing else, ascending.
 pub record IsPicture (js rows : List (List ℕ)) : Type 0 where
   pub live-states : (a : List ℕ) → List·Memᴰ a rows ↔ LiveState js a
   pub ascending : Ascending rows
@@ -60,7 +60,7 @@ abbrev pub rowOf : List ℕ → ℕ → List (List ℕ) → ℕ
 rowOf a i [] = zero
 rowOf a i (b ∷ l) = cond (before a b) zero (cond (before b a) (rowOf a (suc i) l) i)
 
--- The arc of a row under step s is the row number of the state reached by s, and 0 if that state isn't live.
+-- A row's arc under step s: the number of the row that s leads to, or 0 where what it leads to isn't live.
 abbrev pub arc : List (List ℕ) → List (List ℕ) → List ℕ → ℕ → ℕ
 arc js rows a s = cond (live (step js a s)) (rowOf (step js a s) 0 rows) 0
 

@@ -1,4 +1,4 @@
--- The place of a word in a journal, and states. Assumes nothing.
+-- Places of words, and states. Assumes nothing.
 use Prim.Native.Nat.{ℕ, zero, suc, _-_, _≤_, _<_}
 use mathlib.Core.Path.{_≡_}
 use mathlib.Core.Bool.{Bool, true, false, cond}
@@ -13,7 +13,7 @@ abbrev pub find : ℕ → List ℕ → ℕ → ℕ
 find s [] p = lost
 find s (x ∷ l) p = cond (eqb x s) (suc p) (find s l (suc p))
 
--- The least place above p whose step is s. It is lost if there is none, or if p is lost.
+-- The least place above p whose step is s; lost where no such place exists, and from lost itself.
 abbrev pub next : List ℕ → ℕ → ℕ → ℕ
 next j p s = cond (eqb p lost) lost (find s (drop p j) p)
 
@@ -29,11 +29,11 @@ abbrev pub placeFrom : List ℕ → ℕ → List ℕ → ℕ
 placeFrom j p [] = p
 placeFrom j p (s ∷ w) = placeFrom j (next j p s) w
 
--- The place of a word in a journal: 0 for the empty word.
+-- A word's place: its steps lead there from place 0, where the empty word stays.
 abbrev pub place : List ℕ → List ℕ → ℕ
 place j w = placeFrom j 0 w
 
--- A state is the row of k places of some word.
+-- A word's state: its places in all journals, as a row.
 abbrev pub state : List (List ℕ) → List ℕ → List ℕ
 state [] w = []
 state (j ∷ js) w = place j w ∷ state js w
@@ -44,7 +44,7 @@ step [] ps s = []
 step (j ∷ js) [] s = []
 step (j ∷ js) (p ∷ ps) s = next j p s ∷ step js ps s
 
--- It is live when at least one place isn't lost. With k = 0 there is no live state.
+-- A state is live while some place of it isn't lost; that of no journals never is.
 abbrev pub live : List ℕ → Bool
 live [] = false
 live (p ∷ ps) = cond (eqb p lost) (live ps) true

@@ -6,7 +6,7 @@ use lib.ListN.{length}
 use lib.Dec.{eqb}
 use Rattle.words.specs.Limits.{stepCodes, longestJournal, mostJournals}
 
--- A step is a code 0 to 15. A word is a finite row of steps.
+-- A word is a row of steps, of any finite length; each step is a code below 16.
 abbrev pub IsWord : List ℕ → Type 0
 IsWord [] = Unit {0}
 IsWord (s ∷ w) = (s < stepCodes) × IsWord w
@@ -24,17 +24,17 @@ pub record AreJournals (js : List (List ℕ)) : Type 0 where
   pub few : length js ≤ mostJournals
   pub each : EachJournal js
 
--- A word is in a journal when it can be got by deleting zero or more of the journal's steps.
+-- A word is in a journal when striking out some of its steps, or none, leaves the word.
 abbrev pub In : List ℕ → List ℕ → Type 0
 In w j = Sublistᴰ w j
 
--- The same as a test: the empty word is in, and another is in when its first step is found and the rest is in what follows.
+-- The same as a test. The empty word passes; any other has its first step looked for, and its rest behind that.
 abbrev pub isIn : List ℕ → List ℕ → Bool
 isIn [] j = true
 isIn (s ∷ w) [] = false
 isIn (s ∷ w) (x ∷ j) = cond (eqb x s) (isIn w j) (isIn (s ∷ w) j)
 
--- The count of a word is the number of journals that it is in. Equal journals count separately.
+-- The count of a word: how many journals have it in them. Two equal journals count twice.
 abbrev pub count : List (List ℕ) → List ℕ → ℕ
 count [] w = zero
 count (j ∷ js) w = cond (isIn w j) (suc (count js w)) (count js w)
