@@ -2,7 +2,7 @@ pub mod TableCounts
 pub mod Counts
 pub mod Refusals
 pub mod OneOutcome
-pub mod Said
+pub mod NegatedTests
 pub mod BookSizes
 pub mod ClearCases
 pub mod RowRecordCases

@@ -1,6 +1,6 @@
 -- `books::append` meets its contract: it is append at the last journal, which is asked for once the sizes are right. Assumes nothing.
 use mathlib.Core.Path.{_∙_}
-use Rattle.books.proofs.Said.{said-no, said-yes}
+use Rattle.books.proofs.NegatedTests.{said-no, said-yes}
 use Rattle.books.proofs.BookSizes.{both-sized}
 use Rattle.books.proofs.AppendCases.{append-size, append-last}
 use borrow.Author.Needs.{needs}

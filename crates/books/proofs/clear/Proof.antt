@@ -4,7 +4,7 @@ use borrow.Author.Needs.{needs}
 use mathlib.Core.Path.{sym, ap₂, _∙_}
 use Rattle.books.specs.Numbers.{done}
 use Rattle.books.specs.Clear.{after, zeros}
-use Rattle.books.proofs.Said.{said-no, said-yes}
+use Rattle.books.proofs.NegatedTests.{said-no, said-yes}
 use Rattle.books.proofs.ClearCases.{clear-size, clear-done}
 use Rattle.books.proofs.clear.Statement.{statement}
 use Rattle.books.proofs.clear.Tie as tie

@@ -5,7 +5,7 @@ use Rattle.words.specs.Words.{count}
 use Rattle.records.specs.JournalBook.{journalsOf}
 use Rattle.books.specs.Numbers.{done}
 use Rattle.books.specs.TableCount.{counted}
-use Rattle.books.proofs.Said.{said-no, said-yes}
+use Rattle.books.proofs.NegatedTests.{said-no, said-yes}
 use Rattle.books.proofs.JournalCountCases.{form-by, form-not, journals-size, record-size, word-wrong, book-wrong, word-counted, word-room, word-part}
 use borrow.Author.Needs.{needs}
 use native.Mathlib.Omega.{arith}

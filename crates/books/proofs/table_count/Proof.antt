@@ -5,7 +5,7 @@ use borrow.Author.Needs.{needs}
 use mathlib.Core.Path.{sym, ap, _∙_}
 use Rattle.books.specs.Numbers.{done}
 use Rattle.books.specs.TableCount.{counted}
-use Rattle.books.proofs.Said.{said-no, said-yes}
+use Rattle.books.proofs.NegatedTests.{said-no, said-yes}
 use Rattle.rows.proofs.Arcs.{walk-row}
 use Rattle.books.proofs.TableCountCases.{count-size, count-step, count-row, count-none, count-damage}
 use Rattle.books.proofs.table_count.Statement.{statement}

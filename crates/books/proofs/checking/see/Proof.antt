@@ -6,7 +6,7 @@ use Prim.Native.Nat.{ℕ}
 use Rattle.records.specs.JournalBook.{journalsOf}
 use Rattle.picture.proofs.Drawn.{says-few}
 use Rattle.books.specs.Check.{checked}
-use Rattle.books.proofs.Said.{said-no, said-yes}
+use Rattle.books.proofs.NegatedTests.{said-no, said-yes}
 use Rattle.books.proofs.BookSizes.{both-sized}
 use Rattle.books.proofs.CheckCases.{check-size, check-book-one, check-formed}
 use Rattle.books.proofs.Checks.{parts-of, sound-sizes}
