@@ -2,12 +2,13 @@
 
 use books::number::DONE;
 use feed::Ask;
+use lent_bytes::sixteen_at;
 use libc::STDOUT_FILENO;
 use records::LONGEST_WORD;
 use records::WORD_RECORD;
 use text::Line;
 ghost use mathlib.Core.Path.{_≡_};
-ghost use Prim.Native.Nat.{_+_, _*_, _≤_};
+ghost use Prim.Native.Nat.{_+_, _≤_};
 ghost use lib.ListN.{length};
 ghost use Rattle.records.specs.Sizes.{wordRecordSize};
 ghost use Rattle.text.specs.Lines.{lineSize};
@@ -75,19 +76,6 @@ fn record_line(rows: &[u8], word_record: &[u8]) -> Line
     text::word_line(counted.count, &word_record[1..end])
 }
 
-// The word record i of a page.
-fn record_at(page: &[u8], i: usize) -> [u8; 16]
-    requires { ⌜ wordRecordSize * i + wordRecordSize ≤ length (now page) ⌝ }
-{
-    let mut found = [0u8; WORD_RECORD];
-    let mut c = 0;
-    while c < WORD_RECORD {
-        found[c] = page[WORD_RECORD * i + c];
-        c += 1;
-    }
-    found
-}
-
 // Prints the words of a page, a line each. Answers whether all of it was written.
 fn print_page(rows: &[u8], page: &[u8], written: usize) -> bool
     requires { ⌜ (written ≤ 1024) × (length (now page) ≡ 16384) ⌝ }
@@ -96,7 +84,7 @@ fn print_page(rows: &[u8], page: &[u8], written: usize) -> bool
     let mut end = 0;
     let mut i = 0;
     while i < written {
-        let word_record = record_at(page, i);
+        let word_record = sixteen_at(page, WORD_RECORD * i);
         end = put_line(&mut text, end, record_line(rows, &word_record));
         i += 1;
     }
@@ -142,7 +130,7 @@ fn print_words(journals: &[u8], rows: &[u8], ask: Ask) -> Printed {
             return Printed { words, whole: true };
         }
         // A part with words behind it is full.
-        last = record_at(&page, PAGE_WORDS - 1);
+        last = sixteen_at(&page, PAGE - WORD_RECORD);
         after = true;
         turns -= 1;
     }

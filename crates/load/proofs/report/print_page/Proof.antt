@@ -16,8 +16,11 @@ abbrev μ-loop : tie.MeasureT-loop
 loop-holds : tie.Need-loop-holds Inv-loop μ-loop
 loop-holds c = search needs
 
-record-at-requires : tie.Need-record-at-requires Inv-loop μ-loop
-record-at-requires c κs = search needs
+mul-sixteen-at : tie.Need-mul-sixteen-at Inv-loop μ-loop
+mul-sixteen-at c = search needs
+
+sixteen-at-requires : tie.Need-sixteen-at-requires Inv-loop μ-loop
+sixteen-at-requires c κs = search needs
 
 slice-aggregate-put-line : tie.Need-slice-aggregate-put-line Inv-loop μ-loop
 slice-aggregate-put-line c = search needs
@@ -59,7 +62,8 @@ print-page-spec =
     Inv-loop
     μ-loop
     loop-holds
-    record-at-requires
+    mul-sixteen-at
+    sixteen-at-requires
     slice-aggregate-put-line
     slice-aggregate-record-line
     record-line-requires

@@ -45,14 +45,14 @@ add-words c = search needs
 returns-3 : tie.Need-returns-3 Inv-loop μ-loop
 returns-3 c = search needs
 
-slice-aggregate-record-at : tie.Need-slice-aggregate-record-at Inv-loop μ-loop
-slice-aggregate-record-at c = search needs
+slice-aggregate-sixteen-at : tie.Need-slice-aggregate-sixteen-at Inv-loop μ-loop
+slice-aggregate-sixteen-at c = search needs
 
-sub-record-at : tie.Need-sub-record-at Inv-loop μ-loop
-sub-record-at c = search needs
+sub-sixteen-at : tie.Need-sub-sixteen-at Inv-loop μ-loop
+sub-sixteen-at c = search needs
 
-record-at-requires : tie.Need-record-at-requires Inv-loop μ-loop
-record-at-requires c κs = search needs
+sixteen-at-requires : tie.Need-sixteen-at-requires Inv-loop μ-loop
+sixteen-at-requires c κs = search needs
 
 sub-turns : tie.Need-sub-turns Inv-loop μ-loop
 sub-turns c = search needs
@@ -83,9 +83,9 @@ print-words-spec =
     returns-2
     add-words
     returns-3
-    slice-aggregate-record-at
-    sub-record-at
-    record-at-requires
+    slice-aggregate-sixteen-at
+    sub-sixteen-at
+    sixteen-at-requires
     sub-turns
     loop-less
     loop-again
