@@ -1,2 +1,3 @@
 pub mod NotCode
 pub mod Reading
+pub mod Meaning

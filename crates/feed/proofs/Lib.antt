@@ -6,4 +6,5 @@ pub mod TakeCases
 pub mod Entries
 pub mod FeedCases
 pub mod Numbers
-pub mod Feeding
+pub mod EntryMeans
+pub mod FeedMeans

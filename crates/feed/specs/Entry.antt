@@ -4,10 +4,11 @@ use mathlib.Core.Bool.{cond}
 use mathlib.Core.List.{List, [], _∷_}
 use lib.ListN.{length}
 use lib.Dec.{eqb}
-use Rattle.books.specs.Numbers.{first, done, brokenEntry}
+use Rattle.books.specs.Numbers.{Refusal, first, done, journalFull, rowsFull, journalsFull, brokenEntry}
 use Rattle.records.specs.JournalBook.{journalsOf}
 use Rattle.books.specs.Clear.{After, after, leaves}
 use Rattle.entries.specs.Entry.{entryOf}
+use Rattle.entries.specs.Meaning.{isBroken, noneFree, lastFull, rowsPassed}
 use Rattle.entries.specs.declared.entry.Entry.{Entry}
 use Rattle.entries.specs.declared.entry.Entry.the-variants.{Broken, Append, Open, OpenAppend}
 use Rattle.feed.specs.declared.Fed.{Fed}
@@ -31,6 +32,16 @@ enter Broken jb rb = after brokenEntry jb rb
 enter (Append s) jb rb = appendCall jb rb s
 enter Open jb rb = openCall jb rb
 enter (OpenAppend s) jb rb = openAppendWhole jb rb s
+
+-- on the books of the journals js: 11, 7, 5, 6
+abbrev pub entryRefusals : List (List ℕ) → ℕ → ℕ → List Refusal
+entryRefusals js n s =
+    let e : Entry = entryOf (length js) n s in
+    record { holds = isBroken e; number = brokenEntry }
+    ∷ record { holds = noneFree e js; number = journalsFull }
+    ∷ record { holds = lastFull e js; number = journalFull }
+    ∷ record { holds = rowsPassed e js; number = rowsFull }
+    ∷ []
 
 -- one entry: a journal number and a step; a journal book that isn't one is refused as the number of its open journals is
 unfoldable pub entryCall : List ℕ → List ℕ → ℕ → ℕ → After
