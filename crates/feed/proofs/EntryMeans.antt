@@ -2,7 +2,7 @@
 -- leaves the books of the journals that it leads to. Assumes nothing.
 use Prim.Native.Nat.{ℕ, zero, suc, _≤_, _<_}
 use native.Mathlib.Omega.{arith}
-use mathlib.Core.Path.{_≡_, refl, sym, ap, subst, _∙_}
+use mathlib.Core.Path.{_≡_, refl, sym, ap, _∙_}
 use mathlib.Core.Bool.{true, false}
 use mathlib.Core.List.{List}
 use lib.ListN.{length}
@@ -19,7 +19,7 @@ use Rattle.records.specs.JournalBook.{journalBook}
 use Rattle.records.specs.RowBook.{rowBook}
 use Rattle.records.specs.Sound.{BooksOf}
 use Rattle.records.proofs.Sound.{books-journals, books-sizes, books-sound}
-use Rattle.books.specs.Numbers.{first, Given, unless}
+use Rattle.books.specs.Numbers.{first, unless}
 use Rattle.books.specs.Clear.{After, after, leaves}
 use Rattle.books.specs.Write.{written}
 use Rattle.books.specs.Open.{openCall}
@@ -27,13 +27,12 @@ use Rattle.books.specs.Append.{appendAtCall, appendCall}
 use Rattle.books.specs.OpenJournals.{openJournalsRefusals, openJournalsCall}
 use Rattle.books.specs.declared.OpenJournals.{OpenJournals}
 use Rattle.books.proofs.OpenJournalsCases.{open-books}
-use Rattle.books.proofs.Refusals.{first-given}
 use Rattle.entries.specs.Entry.{entryOf}
 use Rattle.entries.specs.Meaning.{means, entryNumber}
 use Rattle.entries.specs.declared.entry.Entry.{Entry}
 use Rattle.entries.specs.declared.entry.Entry.the-variants.{Broken, Append, Open, OpenAppend}
 use Rattle.entries.proofs.Meaning.{Asks, asks, last-opened, means-fits, means-journals}
-use Rattle.feed.specs.Entry.{openAppend, openAppendWhole, enter, entryRefusals, entryCall}
+use Rattle.feed.specs.Entry.{openAppend, openAppendWhole, enter, entryCall}
 use Rattle.feed.proofs.EntryCases.{opening-refused, opening-done, whole-refused}
 
 -- the books of the journals
@@ -96,7 +95,8 @@ module _ {js : List (List ℕ)} {jb rb : List ℕ} (b : BooksOf js jb rb) where
         ∙ whole-left (entryNumber (Append s) (opened js)) (appended s (opened js)) (journalBook (opened js)) (rowBook (opened js)) jb rb
         ∙ ap (λ (m : ℕ). written m (appended s (opened js)) jb rb) (same-number s)
 
-  enter-means : (e : Entry) → Asks js e → enter e jb rb ≡ written (entryNumber e js) (means e js) jb rb
+  -- what is asked for
+  pub enter-means : (e : Entry) → Asks js e → enter e jb rb ≡ written (entryNumber e js) (means e js) jb rb
   unfolding enter entryNumber
   enter-means Broken a = refl
   enter-means (Append s) a = append-means b s (a .0) (a .1)
@@ -118,8 +118,3 @@ module _ {js : List (List ℕ)} {jb rb : List ℕ} (b : BooksOf js jb rb) where
   entry-books n s z =
       let e : Entry = entryOf (length js) n s in
       books-of (means e js) (means-journals js (b .journals) e (asks js n s) z) (means-fits js e z)
-
-  -- on sound books an entry has the numbers 11, 7, 5 and 6, each exactly under its condition and no earlier one
-  pub entry-numbers : (n s : ℕ) → Given (entryRefusals js n s) (entryCall jb rb n s .number)
-  unfolding entryNumber
-  entry-numbers n s = subst (Given (entryRefusals js n s)) (sym (ap (λ (a : After). a .number) (entry-means n s))) (first-given (entryRefusals js n s))

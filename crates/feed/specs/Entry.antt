@@ -1,11 +1,12 @@
 -- The loading program's entries: what one does to the books, or the number that it is refused with, and what a row of them does. Assumes nothing.
 use Prim.Native.Nat.{ℕ, suc}
-use mathlib.Core.Bool.{cond}
-use mathlib.Core.List.{List, [], _∷_}
+use mathlib.Core.Bool.{cond, not}
+use mathlib.Core.List.{List, [], _∷_, _++_}
 use lib.ListN.{length}
 use lib.Dec.{eqb}
-use Rattle.books.specs.Numbers.{Refusal, first, done, journalFull, rowsFull, journalsFull, brokenEntry}
+use Rattle.books.specs.Numbers.{Refusal, first, done, wrongSize, damaged, journalFull, rowsFull, journalsFull, brokenEntry}
 use Rattle.records.specs.JournalBook.{journalsOf}
+use Rattle.records.specs.Sound.{rightSizes, sound}
 use Rattle.books.specs.Clear.{After, after, leaves}
 use Rattle.entries.specs.Entry.{entryOf}
 use Rattle.entries.specs.Meaning.{isBroken, noneFree, lastFull, rowsPassed}
@@ -33,15 +34,33 @@ enter (Append s) jb rb = appendCall jb rb s
 enter Open jb rb = openCall jb rb
 enter (OpenAppend s) jb rb = openAppendWhole jb rb s
 
--- on the books of the journals js: 11, 7, 5, 6
-abbrev pub entryRefusals : List (List ℕ) → ℕ → ℕ → List Refusal
-entryRefusals js n s =
-    let e : Entry = entryOf (length js) n s in
-    record { holds = isBroken e; number = brokenEntry }
-    ∷ record { holds = noneFree e js; number = journalsFull }
+-- 11: the entry is broken
+abbrev pub brokenRefusal : Entry → Refusal
+brokenRefusal e = record { holds = isBroken e; number = brokenEntry }
+
+-- 7, 5, 6, by the journals alone
+abbrev pub roomRefusals : List (List ℕ) → Entry → List Refusal
+roomRefusals js e =
+    record { holds = noneFree e js; number = journalsFull }
     ∷ record { holds = lastFull e js; number = journalFull }
     ∷ record { holds = rowsPassed e js; number = rowsFull }
     ∷ []
+
+-- one entry on the books of the journals js: 11, 7, 5, 6
+abbrev pub entryRefusals : List (List ℕ) → ℕ → ℕ → List Refusal
+entryRefusals js n s = let e : Entry = entryOf (length js) n s in brokenRefusal e ∷ roomRefusals js e
+
+-- what an entry asks for, on any books: 11, then 1 and 2 of both books, then 7, 5, 6
+abbrev pub enterRefusals : List ℕ → List ℕ → Entry → List Refusal
+enterRefusals jb rb e =
+    brokenRefusal e
+    ∷ record { holds = not (rightSizes jb rb); number = wrongSize }
+    ∷ record { holds = not (sound jb rb); number = damaged }
+    ∷ roomRefusals (journalsOf jb) e
+
+-- one entry on any books: 1 and 2 of the journal book come first, since k is read there
+abbrev pub entryCallRefusals : List ℕ → List ℕ → ℕ → ℕ → List Refusal
+entryCallRefusals jb rb n s = openJournalsRefusals jb ++ enterRefusals jb rb (entryOf (length (journalsOf jb)) n s)
 
 -- one entry: a journal number and a step; a journal book that isn't one is refused as the number of its open journals is
 unfoldable pub entryCall : List ℕ → List ℕ → ℕ → ℕ → After
