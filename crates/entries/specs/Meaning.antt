@@ -40,7 +40,7 @@ lastFull (Append s) js = leb longestJournal (stepsAt (lastOf js) js)
 lastFull Open js = false
 lastFull (OpenAppend s) js = false
 
--- 6: after it there would be more than 1,000 live states
+-- 6: the journals after it have more than 1,000 live states
 abbrev pub rowsPassed : Entry → List (List ℕ) → Bool
 rowsPassed e js = ltb mostRows (length (picture (means e js)))
 
