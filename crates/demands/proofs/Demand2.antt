@@ -1,4 +1,4 @@
--- Demand 2. On sound books a word's count is the number of journals that it is a sublist of: by the table for a word of any
+-- Demand 2. On sound books a count says of how many journals the word is a sublist: by the table for a word of any
 -- length, by the journals for one of up to 15 steps; both answer 0. After any run of calls from cleared books, done and
 -- refused, those that write, those that read, and those that are lent a wrong size, the books are exactly those of the
 -- journals opened and steps accepted since the last clearing. Assumes nothing.

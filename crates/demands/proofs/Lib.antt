@@ -1,7 +1,10 @@
 pub mod Demand2
 pub mod Demand3
+pub mod RefusesAlways
+pub mod WrongBooks
 pub mod WrongLists
 pub mod Run
 pub mod Taken
 pub mod Shared
+pub mod WorkedBooks
 pub mod WrittenAt

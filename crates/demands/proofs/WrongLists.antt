@@ -6,12 +6,10 @@ use mathlib.Core.Path.{_≡_, refl, ap, _∙_}
 use mathlib.Core.Bool.{false, false≢true}
 use mathlib.Core.List.{List, [], _∷_, List·Memᴰ, List·Memᴰ·head, List·Memᴰ·tail, cons≢nil}
 use lib.ListN.{length, replicate}
-use Rattle.words.specs.Picture.{picture}
 use Rattle.words.specs.Listing.{listOf}
 use Rattle.words.proofs.Worked.{two}
 use Rattle.records.specs.JournalBook.{journalsOf, journalRecord, journalBook}
 use Rattle.records.specs.RowBook.{rowBook}
-use Rattle.records.specs.Sound.{BooksOf}
 use Rattle.records.specs.StepBytes.{stepBytes}
 use Rattle.records.specs.WordRecord.{wordRecord}
 use Rattle.list.specs.ListCall.{Asked, Wrote, asked, due, fitting, listCall}
@@ -20,6 +18,7 @@ use Rattle.list.proofs.Parts.{page}
 use Rattle.demands.specs.Taken.{Taken}
 use Rattle.demands.specs.WrittenAt.{WrittenAt}
 use Rattle.demands.proofs.Taken.{taken-done}
+use Rattle.demands.proofs.WorkedBooks.{worked-books}
 use Rattle.demands.proofs.WrittenAt.{each-written}
 
 module _ {js : List (List ℕ)} {a : Asked} (t : Taken js a) (o : Wrote) where
@@ -47,19 +46,6 @@ worked = asked (journalBook two) (rowBook two) 2 1 false (wordRecord []) (replic
 worked-due : due worked ≡ [] ∷ (1 ∷ []) ∷ (2 ∷ []) ∷ []
 unfolding journalsOf journalBook journalRecord stepBytes listOf
 worked-due = refl
-
-worked-books : BooksOf two (journalBook two) (rowBook two)
-unfolding picture
-worked-books =
-    record {
-      journals = record {
-        few = omega arith;
-        each = ((omega arith, (omega arith, (omega arith, (omega arith, tt)))), ((omega arith, (omega arith, (omega arith, (omega arith, tt)))), tt));
-      };
-      fits = omega arith;
-      journal-book = refl;
-      row-book = refl;
-    }
 
 pub worked-taken : Taken two worked
 unfolding stepBytes
