@@ -387,7 +387,7 @@ def hold_counts(js, steps):
 
 
 def hold_lists(js, steps, chance):
-    """Every page against all words up to the length, each counted by deleting steps, sorted."""
+    """Every page, and the list fetched page by page, against all words up to the length, counted by deleting steps, sorted."""
     left = [left_by_deleting(j) for j in js]
     books = books_of(*js)
     for quorum, length in itertools.product(range(1, len(js) + 1), (0, 1, 3, 6, 15)):
@@ -397,6 +397,11 @@ def hold_lists(js, steps, chance):
             due = whole if after is None else [w for w in whole if w > after]
             for fit in 1, 2, 7, 4096:
                 assert page_of(books, quorum, length, after, fit) == (due[:fit], len(due) > fit)
+        fetched, more = page_of(books, quorum, length, None, 2)
+        while more:
+            page, more = page_of(books, quorum, length, fetched[-1], 2)
+            fetched += page
+        assert fetched == whole
 
 
 def hold_to_definitions():
