@@ -1,8 +1,11 @@
+pub mod Demand1
 pub mod Demand2
 pub mod Demand3
 pub mod RefusesAlways
 pub mod WrongBooks
 pub mod WrongLists
+pub mod EntryNumbers
+pub mod KeepsTaken
 pub mod Run
 pub mod Taken
 pub mod Shared

@@ -14,8 +14,9 @@ use Rattle.books.specs.Numbers.{unless, wrongSize}
 use Rattle.books.specs.Open.{openCall}
 use Rattle.books.specs.Runs.{Call, clears, opens, appends, called, Ran}
 use Rattle.books.proofs.Runs.{call-keeps}
+use Rattle.demands.specs.Calls.{readNumber}
 use Rattle.demands.specs.Lending.{Lending, whole, part, within, lent, handedBack}
-use Rattle.demands.specs.Run.{Made, writes, reads, wrong-sizes, swapped, left, meant, readNumber, Reached, cleared-first, then-made}
+use Rattle.demands.specs.Run.{Made, writes, reads, wrong-sizes, swapped, left, meant, Reached, cleared-first, then-made}
 
 -- a writing call that is lent wrong sizes
 size-refused : (c : Call) (x y : List ℕ) → rightSizes x y ≡ false → called c x y ≡ after wrongSize x y

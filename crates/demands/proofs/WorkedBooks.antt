@@ -1,4 +1,4 @@
--- The worked books are the books of their journals, 1 2 1 and 1 1 2. Assumes nothing.
+-- The worked books of document 01 are the books of their two journals. Assumes nothing.
 use native.Mathlib.Omega.{arith}
 use mathlib.Core.Path.{refl}
 use Rattle.words.specs.Picture.{picture}

@@ -14,8 +14,9 @@ use Rattle.books.specs.Numbers.{done, wrongSize}
 use Rattle.books.specs.Runs.{Call, Ran}
 use Rattle.books.specs.TableCount.{tableCountCall}
 use Rattle.books.specs.declared.Counted.{Counted}
+use Rattle.demands.specs.Calls.{Reading, readNumber}
 use Rattle.demands.specs.Lending.{Lending, lent}
-use Rattle.demands.specs.Run.{Reading, readNumber, reads, wrong-sizes, swapped, left, Reached}
+use Rattle.demands.specs.Run.{reads, wrong-sizes, swapped, left, Reached}
 
 -- a count that is done, and is the number of the journals that have the word in them
 pub record RightCount (js : List (List ℕ)) (w : List ℕ) (c : Counted) : Type 0 where

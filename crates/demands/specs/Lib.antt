@@ -1,6 +1,10 @@
-pub mod Taken
-pub mod InParts
-pub mod WrittenAt
+pub mod EntryRefusals
+pub mod KeepsTaken
+pub mod Calls
+pub mod Demand1
 pub mod Lending
 pub mod Run
 pub mod Demand2
+pub mod Taken
+pub mod InParts
+pub mod WrittenAt

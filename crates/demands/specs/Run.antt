@@ -4,44 +4,17 @@ use mathlib.Core.Path.{_≡_}
 use mathlib.Core.Bool.{false}
 use mathlib.Core.List.{List}
 use Rattle.records.specs.Sound.{rightSizes}
-use Rattle.books.specs.Check.{checkCall}
 use Rattle.books.specs.Clear.{After, after}
-use Rattle.books.specs.JournalCount.{journalCountCall}
-use Rattle.books.specs.LiveRows.{liveRowsCall}
 use Rattle.books.specs.Numbers.{unless}
-use Rattle.books.specs.OpenJournals.{openJournalsCall}
-use Rattle.books.specs.RowRecord.{rowRecordNumberCall}
 use Rattle.books.specs.Runs.{Call, called, means, Ran, cleared}
-use Rattle.books.specs.TableCount.{tableCountCall}
-use Rattle.list.specs.ListCall.{Asked, listCall}
+use Rattle.demands.specs.Calls.{Reading, readNumber}
 use Rattle.demands.specs.Lending.{Lending, lent, handedBack}
 
--- The calls that are lent books only to read them, each with all that it is given: the books of the run, or any other bytes.
-pub data Reading : Type 0 where
-  table-count : (rows word : List ℕ) → Reading
-  journal-count : (journals word-record : List ℕ) → Reading
-  check : (journals rows : List ℕ) → Reading
-  row-record : (rows : List ℕ) (row : ℕ) → Reading
-  row-record-number : (rows : List ℕ) (row : ℕ) → Reading
-  open-journals : (journals : List ℕ) → Reading
-  live-rows : (journals rows : List ℕ) → Reading
-  list : Asked → Reading
-
--- the number that goes with its answer
-abbrev pub readNumber : Reading → ℕ
-readNumber (table-count rb w) = tableCountCall rb w .number
-readNumber (journal-count jb r) = journalCountCall jb r .number
-readNumber (check jb rb) = checkCall jb rb .number
-readNumber (row-record rb r) = rowRecordNumberCall rb r
-readNumber (row-record-number rb r) = rowRecordNumberCall rb r
-readNumber (open-journals jb) = openJournalsCall jb .number
-readNumber (live-rows jb rb) = liveRowsCall jb rb .number
-readNumber (list a) = listCall a .answer .number
-
--- One call, made where the books are jb and rb. A new call adds a case, here or among those that read.
+-- One call, made where the books are jb and rb. A new call that writes adds a case.
 pub data Made (jb rb : List ℕ) : Type 0 where
   -- clear, open or append, lent both books
   writes : Call → Made jb rb
+  -- a call that reads, given these books or any other bytes
   reads : Reading → Made jb rb
   -- clear, open or append, lent something else of the books: not both sizes are right
   wrong-sizes : Call → (l m : Lending) → rightSizes (lent l jb) (lent m rb) ≡ false → Made jb rb
