@@ -1,6 +1,6 @@
 -- Demand 1. Every public call, on every input, answers a number exactly under that number's condition and no earlier one, and 0
--- where none holds. A refusal has every other number zero and every yes or no "no", and leaves every byte that it was lent; the check
--- says where the books are wrong, and a row of entries keeps those taken and answers how many. Assumes nothing.
+-- where none holds. A refusal says zero and "no" in all else that it answers, and leaves every byte that it was lent; the check says
+-- where the books are wrong, and a row of entries keeps those taken and answers how many. Assumes nothing.
 use Prim.Native.Nat.{ℕ}
 use mathlib.Core.Path.{_≡_, sym, subst, _∙_}
 use mathlib.Core.Logic.{_↔_}
@@ -10,11 +10,11 @@ use Rattle.books.proofs.Checks.{check-numbers, check-verdict}
 use Rattle.books.proofs.Refusals.{first-given, given-first, call-numbers, call-refused, table-count-numbers, table-count-refused, journal-count-numbers, journal-count-refused, open-journals-numbers, open-journals-refused, live-rows-numbers, live-rows-refused, row-record-numbers, row-record-refused}
 use Rattle.list.proofs.Numbers.{list-numbers, list-refused}
 use Rattle.feed.proofs.Entries.{entry-whole}
-use Rattle.feed.proofs.Numbers.{ask-numbers, ask-refused}
+use Rattle.feed.proofs.Numbers.{ask-numbers, ask-refused, entry-call-numbers}
 use Rattle.demands.specs.Calls.{Reading, table-count, journal-count, check, row-record, row-record-number, open-journals, live-rows, list}
-use Rattle.demands.specs.Calls.{PublicCall, writes, reads, entry, entries, ask, readNumber, numberOf, readRefusals, refusalsOf}
+use Rattle.demands.specs.Calls.{Writing, calls, entry, entries, PublicCall, writes, reads, ask, readNumber, written, numberOf, readRefusals, writeRefusals, refusalsOf}
 use Rattle.demands.specs.Demand1.{ReadRefusal, RefusalOf, Answers}
-use Rattle.demands.proofs.EntryNumbers.{entry-number, entries-number}
+use Rattle.demands.proofs.EntriesNumbers.{entries-number}
 use Rattle.demands.proofs.KeepsTaken.{keeps-taken}
 
 -- the number is the first whose condition holds
@@ -28,11 +28,14 @@ read-first (open-journals jb) = given-first (open-journals-numbers jb)
 read-first (live-rows jb rb) = given-first (live-rows-numbers jb rb)
 read-first (list a) = given-first (list-numbers a)
 
+write-first : (c : Writing) (jb rb : List ℕ) → written c jb rb .number ≡ first (writeRefusals c jb rb)
+write-first (calls c) jb rb = given-first (call-numbers c jb rb)
+write-first (entry n s) jb rb = given-first (entry-call-numbers jb rb n s)
+write-first (entries bytes) jb rb = entries-number jb rb bytes
+
 number-first : (c : PublicCall) → numberOf c ≡ first (refusalsOf c)
-number-first (writes c jb rb) = given-first (call-numbers c jb rb)
+number-first (writes c jb rb) = write-first c jb rb
 number-first (reads c) = read-first c
-number-first (entry jb rb n s) = entry-number jb rb n s
-number-first (entries jb rb bytes) = entries-number jb rb bytes
 number-first (ask k file) = given-first (ask-numbers k file)
 
 read-refusal : (c : Reading) → (readNumber c ≡ done → ⊥) → ReadRefusal c
@@ -46,10 +49,10 @@ read-refusal (live-rows jb rb) h = live-rows-refused jb rb h
 read-refusal (list a) h = list-refused a h
 
 refusal : (c : PublicCall) → (numberOf c ≡ done → ⊥) → RefusalOf c
-refusal (writes c jb rb) h = call-refused c jb rb h
+refusal (writes (calls c) jb rb) h = call-refused c jb rb h
+refusal (writes (entry n s) jb rb) h = entry-whole jb rb n s h
+refusal (writes (entries bytes) jb rb) h = keeps-taken jb rb bytes
 refusal (reads c) h = read-refusal c h
-refusal (entry jb rb n s) h = entry-whole jb rb n s h
-refusal (entries jb rb bytes) h = keeps-taken jb rb bytes
 refusal (ask k file) h = ask-refused k file h
 
 -- a number that is the first whose condition holds is given, and no other is

@@ -1,7 +1,7 @@
 -- Demand 2. On sound books a count says of how many journals the word is a sublist: by the table for a word of any
--- length, by the journals for one of up to 15 steps; both answer 0. After any run of calls from cleared books, done and
--- refused, those that write, those that read, and those that are lent a wrong size, the books are exactly those of the
--- journals opened and steps accepted since the last clearing. Assumes nothing.
+-- length, by the journals for one of up to 15 steps; both answer 0. After any run of calls from cleared books, done and refused,
+-- those that write, an entry and a row of entries among them, those that read, and those that are lent a wrong size, the
+-- books are exactly those of the journals opened and steps accepted since the last clearing. Assumes nothing.
 use mathlib.Core.Path.{refl}
 use Prim.Native.Nat.{ℕ, _≤_}
 use mathlib.Core.List.{List}
@@ -16,7 +16,7 @@ use Rattle.books.specs.JournalCount.{journalCountCall}
 use Rattle.books.specs.TableCount.{tableCountCall}
 use Rattle.books.proofs.Counts.{table-count-right, journal-count-right}
 use Rattle.demands.specs.Demand2.{RightCount, Demand2}
-use Rattle.demands.proofs.Run.{reached-books, wrong-sizes-left, swapped-left}
+use Rattle.demands.proofs.Run.{reached-books, wrong-sizes-stay, swapped-stays}
 
 module _ {js : List (List ℕ)} {jb rb : List ℕ} (b : BooksOf js jb rb) (w : List ℕ) (k : IsWord w) where
   table-right : RightCount js w (tableCountCall rb w)
@@ -32,7 +32,7 @@ demand-2 = record {
   by-table = λ b w k. table-right b w k;
   by-journals = λ b w k h. journal-right b w k h;
   after-runs = λ p. reached-books p;
-  reading = λ jb rb c. refl;
-  wrongly-lent = λ jb rb c l m w. wrong-sizes-left jb rb c l m w;
-  in-each-others-place = λ jb rb c w. swapped-left jb rb c w;
+  reading = λ jb rb c. (refl, refl);
+  wrongly-lent = λ jb rb c l m w. wrong-sizes-stay jb rb c l m w;
+  in-each-others-place = λ jb rb c w. swapped-stays jb rb c w;
 }

@@ -4,7 +4,7 @@ pub mod Demand3
 pub mod RefusesAlways
 pub mod WrongBooks
 pub mod WrongLists
-pub mod EntryNumbers
+pub mod EntriesNumbers
 pub mod KeepsTaken
 pub mod Run
 pub mod Taken

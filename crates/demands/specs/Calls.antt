@@ -4,6 +4,7 @@ use mathlib.Core.Bool.{not}
 use mathlib.Core.List.{List, [], _∷_}
 use Rattle.records.specs.Sound.{rightSizes, sound}
 use Rattle.books.specs.Check.{checkCall}
+use Rattle.books.specs.Clear.{After, after}
 use Rattle.books.specs.JournalCount.{journalCountRefusals, journalCountCall}
 use Rattle.books.specs.LiveRows.{liveRowsRefusals, liveRowsCall}
 use Rattle.books.specs.Numbers.{Refusal, wrongSize, damaged}
@@ -13,10 +14,10 @@ use Rattle.books.specs.Runs.{Call, called, refusals}
 use Rattle.books.specs.TableCount.{tableCountRefusals, tableCountCall}
 use Rattle.list.specs.ListCall.{Asked, listRefusals, listCall}
 use Rattle.feed.specs.Ask.{askRefusals, askCall}
-use Rattle.feed.specs.Entry.{entryCall, feedCall}
-use Rattle.demands.specs.EntryRefusals.{entryRefusals, entriesRefusals}
+use Rattle.feed.specs.Entry.{AfterFeeding, entryCallRefusals, entryCall, feedCall}
+use Rattle.demands.specs.EntriesRefusals.{entriesRefusals}
 
--- The calls that are lent books only to read them. A new call of this kind adds a case here, any other in `PublicCall`.
+-- The calls that are lent books only to read them. A new call adds a case here, or below among those that write.
 pub data Reading : Type 0 where
   table-count : (rows word : List ℕ) → Reading
   journal-count : (journals word-record : List ℕ) → Reading
@@ -27,13 +28,22 @@ pub data Reading : Type 0 where
   live-rows : (journals rows : List ℕ) → Reading
   list : Asked → Reading
 
+-- The calls that are lent both books to write: clear, open and append, one entry, and a row of entries.
+pub data Writing : Type 0 where
+  calls : Call → Writing
+  entry : (number step : ℕ) → Writing
+  entries : (bytes : List ℕ) → Writing
+
 pub data PublicCall : Type 0 where
-  -- clear, open and append
-  writes : Call → (journals rows : List ℕ) → PublicCall
+  writes : Writing → (journals rows : List ℕ) → PublicCall
   reads : Reading → PublicCall
-  entry : (journals rows : List ℕ) (number step : ℕ) → PublicCall
-  entries : (journals rows bytes : List ℕ) → PublicCall
   ask : (k : ℕ) (file : List ℕ) → PublicCall
+
+-- the number of a call that writes, and both books after it
+abbrev pub written : Writing → List ℕ → List ℕ → After
+written (calls c) jb rb = called c jb rb
+written (entry n s) jb rb = entryCall jb rb n s
+written (entries bytes) jb rb = let o : AfterFeeding = feedCall jb rb bytes in after (o .number) (o .journals) (o .rows)
 
 -- the number that goes with its answer: the row record's comes from the other call
 abbrev pub readNumber : Reading → ℕ
@@ -47,10 +57,8 @@ readNumber (live-rows jb rb) = liveRowsCall jb rb .number
 readNumber (list a) = listCall a .answer .number
 
 abbrev pub numberOf : PublicCall → ℕ
-numberOf (writes c jb rb) = called c jb rb .number
+numberOf (writes c jb rb) = written c jb rb .number
 numberOf (reads c) = readNumber c
-numberOf (entry jb rb n s) = entryCall jb rb n s .number
-numberOf (entries jb rb bytes) = feedCall jb rb bytes .number
 numberOf (ask k file) = askCall k file .number
 
 -- the check's numbers: 1, 2
@@ -71,9 +79,12 @@ readRefusals (open-journals jb) = openJournalsRefusals jb
 readRefusals (live-rows jb rb) = liveRowsRefusals jb rb
 readRefusals (list a) = listRefusals a
 
+abbrev pub writeRefusals : Writing → List ℕ → List ℕ → List Refusal
+writeRefusals (calls c) jb rb = refusals c jb rb
+writeRefusals (entry n s) jb rb = entryCallRefusals jb rb n s
+writeRefusals (entries bytes) jb rb = entriesRefusals jb rb bytes
+
 abbrev pub refusalsOf : PublicCall → List Refusal
-refusalsOf (writes c jb rb) = refusals c jb rb
+refusalsOf (writes c jb rb) = writeRefusals c jb rb
 refusalsOf (reads c) = readRefusals c
-refusalsOf (entry jb rb n s) = entryRefusals jb rb n s
-refusalsOf (entries jb rb bytes) = entriesRefusals jb rb bytes
 refusalsOf (ask k file) = askRefusals k file

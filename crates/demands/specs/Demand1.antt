@@ -17,7 +17,7 @@ use Rattle.list.specs.ListCall.{listCall}
 use Rattle.feed.specs.Ask.{askCall}
 use Rattle.feed.specs.Entry.{entryCall, feedCall}
 use Rattle.demands.specs.Calls.{Reading, table-count, journal-count, check, row-record, row-record-number, open-journals, live-rows, list}
-use Rattle.demands.specs.Calls.{PublicCall, writes, reads, entry, entries, ask, numberOf, refusalsOf}
+use Rattle.demands.specs.Calls.{calls, entry, entries, PublicCall, writes, reads, ask, numberOf, refusalsOf}
 use Rattle.demands.specs.KeepsTaken.{KeepsTaken}
 
 -- What a call that reads says besides its number where it refuses: zeros, "no" and, of the row record, no byte. The list
@@ -36,12 +36,12 @@ ReadRefusal (list a) = (listCall a .answer .written ≡ 0) × (listCall a .answe
 abbrev pub Stay : List ℕ → List ℕ → After → Type 0
 Stay jb rb a = (a .journals ≡ jb) × (a .rows ≡ rb)
 
--- Of the others: a writing call and an entry leave both books, a row of entries keeps those taken, and the ask says zeros.
+-- A call that writes leaves both books; a row of entries keeps those taken. A refused ask says zeros.
 abbrev pub RefusalOf : PublicCall → Type 0
-RefusalOf (writes c jb rb) = Stay jb rb (called c jb rb)
+RefusalOf (writes (calls c) jb rb) = Stay jb rb (called c jb rb)
+RefusalOf (writes (entry n s) jb rb) = Stay jb rb (entryCall jb rb n s)
+RefusalOf (writes (entries bytes) jb rb) = KeepsTaken jb rb bytes (feedCall jb rb bytes)
 RefusalOf (reads c) = ReadRefusal c
-RefusalOf (entry jb rb n s) = Stay jb rb (entryCall jb rb n s)
-RefusalOf (entries jb rb bytes) = KeepsTaken jb rb bytes (feedCall jb rb bytes)
 RefusalOf (ask k file) = (askCall k file .quorum ≡ 0) × (askCall k file .limit ≡ 0)
 
 -- A number is answered exactly under its condition and no earlier one, and a refusal is as above.

@@ -8,13 +8,13 @@ use Rattle.words.specs.Words.{IsWord, Counts}
 use Rattle.records.specs.Sizes.{longestWord}
 use Rattle.records.specs.Sound.{rightSizes, BooksOf}
 use Rattle.records.specs.WordRecord.{wordRecord}
-use Rattle.books.specs.Clear.{after}
 use Rattle.books.specs.JournalCount.{journalCountCall}
-use Rattle.books.specs.Numbers.{done, wrongSize}
-use Rattle.books.specs.Runs.{Call, Ran}
+use Rattle.books.specs.Numbers.{done}
+use Rattle.books.specs.Runs.{Ran}
 use Rattle.books.specs.TableCount.{tableCountCall}
 use Rattle.books.specs.declared.Counted.{Counted}
-use Rattle.demands.specs.Calls.{Reading, readNumber}
+use Rattle.demands.specs.Calls.{Reading, Writing}
+use Rattle.demands.specs.Demand1.{Stay}
 use Rattle.demands.specs.Lending.{Lending, lent}
 use Rattle.demands.specs.Run.{reads, wrong-sizes, swapped, left, Reached}
 
@@ -30,8 +30,8 @@ pub record Demand2 : Type 0 where
       → RightCount js w (journalCountCall jb (wordRecord w))
   -- after any run the books are those of the journals opened and steps accepted since the last clearing
   pub after-runs : {r : Ran} → Reached r → BooksOf (r .journals) (r .journal-book) (r .row-book)
-  -- what only reads changes neither book, and what is lent wrong sizes is refused with 1 and changes neither
-  pub reading : (jb rb : List ℕ) (c : Reading) → left jb rb (reads c) ≡ after (readNumber c) jb rb
-  pub wrongly-lent : (jb rb : List ℕ) (c : Call) (l m : Lending) (w : rightSizes (lent l jb) (lent m rb) ≡ false)
-      → left jb rb (wrong-sizes c l m w) ≡ after wrongSize jb rb
-  pub in-each-others-place : (jb rb : List ℕ) (c : Call) (w : rightSizes rb jb ≡ false) → left jb rb (swapped c w) ≡ after wrongSize jb rb
+  -- of these calls, what only reads and what is lent wrong sizes changes neither book
+  pub reading : (jb rb : List ℕ) (c : Reading) → Stay jb rb (left jb rb (reads c))
+  pub wrongly-lent : (jb rb : List ℕ) (c : Writing) (l m : Lending) (w : rightSizes (lent l jb) (lent m rb) ≡ false)
+      → Stay jb rb (left jb rb (wrong-sizes c l m w))
+  pub in-each-others-place : (jb rb : List ℕ) (c : Writing) (w : rightSizes rb jb ≡ false) → Stay jb rb (left jb rb (swapped c w))

@@ -1,4 +1,4 @@
-pub mod EntryRefusals
+pub mod EntriesRefusals
 pub mod KeepsTaken
 pub mod Calls
 pub mod Demand1
