@@ -2,12 +2,16 @@
 import os
 import subprocess
 
+MACHINE = os.uname().machine
+# How much longer a run may take there.
+SLOWER = 1 if MACHINE == "x86_64" else 10
+
 
 def words(program):
-    machine, program = os.uname().machine, os.path.abspath(program)
-    if machine == "x86_64":
+    program = os.path.abspath(program)
+    if MACHINE == "x86_64":
         return [program]
     guide = subprocess.run(["rt", "doc"], capture_output=True, text=True, check=True).stdout.strip()
-    tools = os.path.join(os.path.dirname(os.path.dirname(guide)), "on", machine, "toolchain")
+    tools = os.path.join(os.path.dirname(os.path.dirname(guide)), "on", MACHINE, "toolchain")
     library = os.path.join(tools, "lib")
     return [os.path.join(tools, "bin", "qemu-x86_64"), os.path.join(library, "ld-linux-x86-64.so.2"), "--library-path", library, program]

@@ -27,7 +27,7 @@ import kept
 import named_cases
 import program_model
 
-MOST_SECONDS = 60
+MOST_SECONDS = 60 * built.SLOWER
 LARGE = 100 << 20
 INPUT, OUTPUT, ASK = b"standard input", b"standard output", b"ask.bin"
 # The ask file: bytes, none, or one that is there and can't be read.
