@@ -1,8 +1,9 @@
 -- The ask by its cases: a length above 15, a quorum below 1 or above k, an ask; and the file's: empty, of two bytes, of any other size. Assumes nothing.
 use Prim.Native.Nat.{ℕ, _≤_, _<_}
-use mathlib.Core.Path.{_≡_}
-use mathlib.Core.List.{List}
-use lib.ListN.{length, getD}
+use native.Mathlib.Omega.{arith}
+use mathlib.Core.Path.{_≡_, refl, sym, _∙_}
+use mathlib.Core.List.{List, [], _∷_}
+use lib.ListN.{length, getD, take}
 use borrow.Author.Tests.{eq-eqb, ne-eqb, lt-ltb, le-ltb}
 use Rattle.books.specs.Numbers.{done, wrongQuorum, wrongLength, wrongAsk}
 use Rattle.feed.specs.Ask.{defaultLength, answer, askOf, askCall}
@@ -37,3 +38,12 @@ module _ (k : ℕ) (ask : List ℕ) where
   pub wrong-file : (length ask ≡ 0 → ⊥) → (length ask ≡ 2 → ⊥) → askCall k ask ≡ answer wrongAsk 0 0
   unfolding askCall
   wrong-file n m = rw (ne-eqb (length ask) 0 n, ne-eqb (length ask) 2 m)
+
+-- an ask of three bytes or more is one of the first three
+pub ask-enough : (k : ℕ) (ask : List ℕ) → askCall k (take 3 ask) ≡ askCall k ask
+ask-enough k [] = refl
+ask-enough k (a ∷ []) = refl
+ask-enough k (a ∷ b ∷ []) = refl
+ask-enough k (a ∷ b ∷ d ∷ ask) =
+    wrong-file k (take 3 (a ∷ b ∷ d ∷ ask)) (λ e. omega arith) (λ e. omega arith)
+    ∙ sym (wrong-file k (a ∷ b ∷ d ∷ ask) (λ e. omega arith) (λ e. omega arith))

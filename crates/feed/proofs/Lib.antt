@@ -8,3 +8,4 @@ pub mod FeedCases
 pub mod Numbers
 pub mod EntryMeans
 pub mod FeedMeans
+pub mod Enough

@@ -1,12 +1,12 @@
 -- Fetched in parts, the parts joined are the list: a part is the front of what is due, what is due is an end of the
 -- whole list, and so what stands after the part's last word is what is left of it. Assumes nothing.
-use Prim.Native.Nat.{ℕ, zero, suc, _≤_, _<_, _/_}
+use Prim.Native.Nat.{ℕ, zero, suc, _+_, _*_, _≤_, _<_, _/_, _-_}
 use native.Mathlib.Omega.{arith}
 use mathlib.Core.Path.{_≡_, refl, sym, ap, ap₂, _∙_}
 use mathlib.Core.Bool.{Bool, true, false}
 use mathlib.Core.List.{List, [], _∷_, _++_, map, append-assoc, List·Memᴰ, List·Memᴰ·head, List·Memᴰ·tail, Memᴰ·append-left, Memᴰ·append-right}
-use lib.ListN.{length, drop, length-take, length-drop, take-append-drop}
-use lib.Seq.{take-at, drop-at, take-all, append-snoc}
+use lib.ListN.{length, take, drop, length-take, length-drop, take-append-drop}
+use lib.Seq.{take-at, drop-at, drop-drop, take-all, append-snoc}
 use lib.Dec.{ltb}
 use borrow.Author.Tests.{ltb-true, ltb-false, le-ltb}
 use Rattle.list.specs.ListCall.{Asked, wrongOutput, wholeList, dueIn, due, fitting, listCall}
@@ -98,6 +98,46 @@ whole-part a e m =
 pub parts-end : (a : Asked) (out : List ℕ) → listCall a .answer .number ≡ 0 → listCall a .answer .more ≡ true
     → length (due (goOn a (lastWord (wordsIn (listCall a))) out)) < length (due a)
 parts-end a out e m = rw (next-due a out e m) (omega (arith, filled a e m, length-take (room a) (due a), length-drop (room a) (due a)))
+
+-- how many words a part has
+part-number : (a : Asked) → listCall a .answer .number ≡ 0 → listCall a .answer .written ≡ length (fitting a)
+unfolding listCall
+part-number a e = rw e
+
+-- the words of a part and those that the next one is asked for are as many as were due
+pub part-counts : (a : Asked) (out : List ℕ) → listCall a .answer .number ≡ 0 → listCall a .answer .more ≡ true
+    → listCall a .answer .written + length (due (goOn a (lastWord (wordsIn (listCall a))) out)) ≡ length (due a)
+part-counts a out e m =
+    rw (next-due a out e m, part-number a e)
+    (omega (arith, length-take (room a) (due a), length-drop (room a) (due a), ltb-true (length (fitting a)) (length (due a)) (remains a true e m)))
+
+-- a part after which none remains has as many words as were due
+pub whole-counts : (a : Asked) → listCall a .answer .number ≡ 0 → listCall a .answer .more ≡ false → listCall a .answer .written ≡ length (due a)
+whole-counts a e m = part-number a e ∙ ap length (sym (page a e) ∙ whole-part a e m)
+
+-- the last of some records is that of the last word
+last-of : (ws : List (List ℕ)) (rest : List ℕ) (n : ℕ) → ((w : List ℕ) → List·Memᴰ w ws → length w ≤ longestWord) → length ws ≡ suc n
+    → take wordRecordSize (drop (wordRecordSize * n) (flat wordRecord ws ++ rest)) ≡ wordRecord (lastWord ws)
+last-of [] rest n h e = absurd (omega arith)
+last-of (w ∷ []) rest n h e =
+    let z = step-bytes-length longestWord w (h w (List·Memᴰ·head refl)) in
+    let k : wordRecordSize * n ≡ 0 = omega arith in
+    rw (k, append-assoc (wordRecord w) [] rest) (take-at (wordRecord w) rest wordRecordSize z)
+last-of (w ∷ v ∷ ws) rest zero h e = absurd (omega arith)
+last-of (w ∷ v ∷ ws) rest (suc n) h e =
+    let z = step-bytes-length longestWord w (h w (List·Memᴰ·head refl)) in
+    let behind : List ℕ = flat wordRecord (v ∷ ws) ++ rest in
+    let k : wordRecordSize * suc n ≡ wordRecordSize + wordRecordSize * n = omega arith in
+    rw (k, append-assoc (wordRecord w) (flat wordRecord (v ∷ ws)) rest, ← drop-drop (wordRecordSize * n) wordRecordSize (wordRecord w ++ behind), drop-at (wordRecord w) behind wordRecordSize z)
+    (last-of (v ∷ ws) rest n (λ u m. h u (List·Memᴰ·tail m)) (omega arith))
+
+-- a part that leaves a word fills its output, and the last record there is that of its last word
+pub last-record : (a : Asked) (n : ℕ) → listCall a .answer .number ≡ 0 → listCall a .answer .more ≡ true → length (a .out) / wordRecordSize ≡ suc n
+    → take wordRecordSize (drop (wordRecordSize * n) (listCall a .out)) ≡ wordRecord (lastWord (wordsIn (listCall a)))
+unfolding listCall
+last-record a n e m r =
+    let l : length (fitting a) ≡ suc n = omega (arith, length-take (room a) (due a), ltb-true (length (fitting a)) (length (due a)) (remains a true e m)) in
+    rw (page a e, e) (last-of (fitting a) _ n (λ w i. omega (arith, allowed a e .limit, listed a w i .short)) l)
 
 -- the last of some words is one of them
 last-mem : (ws : List (List ℕ)) → 1 ≤ length ws → List·Memᴰ (lastWord ws) ws

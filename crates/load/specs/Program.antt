@@ -1,12 +1,13 @@
 -- What the loading program prints, for every input. Assumes nothing.
 use Prim.Native.Nat.{ℕ}
 use mathlib.Core.Bool.{cond}
-use mathlib.Core.List.{List, [], _∷_, _++_}
+use mathlib.Core.List.{List, _++_}
 use lib.ListN.{length, replicate}
 use lib.Dec.{eqb}
 use Rattle.words.specs.Words.{count}
 use Rattle.words.specs.Picture.{picture}
 use Rattle.words.specs.Listing.{listOf}
+use Rattle.records.specs.Bytes.{flat}
 use Rattle.records.specs.Sizes.{journalBookSize, rowBookSize}
 use Rattle.books.specs.Numbers.{done}
 use Rattle.records.specs.JournalBook.{journalsOf}
@@ -15,16 +16,19 @@ use Rattle.feed.specs.Ask.{askCall}
 use Rattle.feed.specs.declared.ask.Ask.{Ask}
 use Rattle.text.specs.Text.{firstLine, wordLine, lastLine, refusedEntryLine, refusedAskLine}
 
+-- a word's line, by a count of words
+abbrev pub lineBy : (List ℕ → ℕ) → List ℕ → List ℕ
+lineBy c w = wordLine (c w) w
+
 -- a line for each word
-abbrev pub wordLines : List (List ℕ) → List (List ℕ) → List ℕ
-wordLines js [] = []
-wordLines js (w ∷ ws) = wordLine (count js w) w ++ wordLines js ws
+abbrev pub wordLines : (List ℕ → ℕ) → List (List ℕ) → List ℕ
+wordLines c ws = flat (lineBy c) ws
 
 -- the journals' lines: k and the live rows, the list by the ask's quorum and length, the number of words
 abbrev pub report : List (List ℕ) → Ask → List ℕ
 report js a =
     let ws : List (List ℕ) = listOf (count js) (a .quorum) (a .limit) in
-    firstLine (length js) (length (picture js)) ++ wordLines js ws ++ lastLine (length ws)
+    firstLine (length js) (length (picture js)) ++ wordLines (count js) ws ++ lastLine (length ws)
 
 -- The ask is looked at only after every entry was taken.
 abbrev pub answered : List (List ℕ) → Ask → List ℕ

@@ -1,6 +1,7 @@
 // The loading program: reads journal entries from standard input, then the ask, and prints the words that the quorum shares.
 
 mod input;
+mod page;
 mod report;
 
 use books::number::DONE;

@@ -1,16 +1,20 @@
 // Printing: the first line, a line for each word of the list, page after page, and the last line.
 
+use crate::page::least;
+use crate::page::page_text;
 use books::number::DONE;
 use feed::Ask;
 use lent_bytes::sixteen_at;
 use libc::STDOUT_FILENO;
-use records::LONGEST_WORD;
 use records::WORD_RECORD;
 use text::Line;
 ghost use mathlib.Core.Path.{_≡_};
-ghost use Prim.Native.Nat.{_+_, _≤_};
+ghost use mathlib.Core.Bool.{true};
+ghost use Prim.Native.Nat.{_≤_};
 ghost use lib.ListN.{length};
-ghost use Rattle.records.specs.Sizes.{wordRecordSize};
+ghost use Rattle.words.specs.Words.{count};
+ghost use Rattle.words.specs.Listing.{listOf};
+ghost use Rattle.records.specs.JournalBook.{journalsOf};
 ghost use Rattle.text.specs.Lines.{lineSize};
 
 // The bytes of a page of 1,024 words, and of its text: a line has at most 96 bytes.
@@ -47,60 +51,20 @@ pub(crate) fn print_line(line: Line) -> bool
     print(&bytes[..n])
 }
 
-// Puts a line into the text from a byte on. Answers where it ends.
-fn put_line(text: &mut [u8], at: usize, line: Line) -> usize
-    requires { ⌜ (line .len ≤ lineSize) × (at + lineSize ≤ length (now text)) ⌝ }
-    ensures { λ r. ⌜ r ≤ at + lineSize ⌝ }
-{
-    let n = line.len;
-    let bytes = line.bytes;
-    let mut i = 0;
-    while i < n {
-        text[at + i] = bytes[i];
-        i += 1;
-    }
-    at + n
-}
-
-// The line of the word in a word record.
-fn record_line(rows: &[u8], word_record: &[u8]) -> Line
-    requires { ⌜ length (now word_record) ≡ wordRecordSize ⌝ }
-    ensures { λ r. ⌜ r .len ≤ lineSize ⌝ }
-{
-    let n = word_record[0] as usize;
-    if LONGEST_WORD < n {
-        return text::word_line(0, &word_record[..0]);
-    }
-    let end = 1 + n;
-    let counted = books::table_count(rows, &word_record[1..end]);
-    text::word_line(counted.count, &word_record[1..end])
-}
-
 // Prints the words of a page, a line each. Answers whether all of it was written.
 fn print_page(rows: &[u8], page: &[u8], written: usize) -> bool
     requires { ⌜ (written ≤ 1024) × (length (now page) ≡ 16384) ⌝ }
 {
     let mut text = [0u8; TEXT];
-    let mut end = 0;
-    let mut i = 0;
-    while i < written {
-        let word_record = sixteen_at(page, WORD_RECORD * i);
-        end = put_line(&mut text, end, record_line(rows, &word_record));
-        i += 1;
-    }
+    let end = page_text(rows, page, written, &mut text);
     print(&text[..end])
 }
 
-// The less of two numbers.
-fn least(a: usize, b: usize) -> usize
-    ensures { λ r. ⌜ (r ≤ a) × (r ≤ b) ⌝ }
-{
-    if a < b { a } else { b }
-}
-
 // Prints the words of the list, page after page, from the start or after a word. Answers how many there were, or that
-// a write failed.
-fn print_words(journals: &[u8], rows: &[u8], ask: Ask) -> Printed {
+// a write failed. Words that are all of them are as many as the list has.
+fn print_words(journals: &[u8], rows: &[u8], ask: Ask) -> Printed
+    ensures { λ r. ⌜ (r .whole ≡ true → r .words ≡ length (listOf (count (journalsOf (now (journals .entry)))) (ask .quorum) (ask .limit))) ⌝ }
+{
     let quorum = ask.quorum;
     let limit = ask.limit;
     let mut page = [0u8; PAGE];
