@@ -3,14 +3,14 @@
 use Prim.Native.Nat.{ℕ, zero, suc, _≤_}
 use native.Mathlib.Omega.{arith}
 use mathlib.Core.Path.{_≡_, refl, sym, subst, _∙_}
-use mathlib.Core.Bool.{Bool, true, false, cond}
+use mathlib.Core.Bool.{Bool, true, false, cond, _||_, false≢true}
 use mathlib.Core.List.{List, [], _∷_}
 use lib.ListN.{length}
 use lib.Dec.{leb, eqb}
 use borrow.Author.Tests.{lt-leb, ne-eqb}
 use Rattle.words.specs.Journals.{lastOf}
 use Rattle.words.proofs.Test.{test}
-use Rattle.books.specs.Numbers.{Refusal, first, Given, none-holds, this-holds, not-this, unless}
+use Rattle.books.specs.Numbers.{Refusal, done, first, Given, none-holds, this-holds, not-this, unless}
 use Rattle.books.specs.Clear.{clearCall}
 use Rattle.books.specs.Open.{openCall}
 use Rattle.books.specs.Append.{appendAtCall, appendCall}
@@ -40,10 +40,25 @@ given-first none-holds = refl
 given-first (this-holds t) = rw t
 given-first (not-this f g) = rw f (given-first g)
 
+-- what holds of 0 and of every refusal's number
+abbrev pub Each : (ℕ → Type 0) → List Refusal → Type 0
+Each P [] = P done
+Each P (r ∷ rs) = P (r .number) × Each P rs
+
+-- holds of the one that counts
+pub first-each : (P : ℕ → Type 0) (rs : List Refusal) → Each P rs → P (first rs)
+first-each P [] p = p
+first-each P (r ∷ rs) p = test (r .holds) (λ t. rw t (p .0)) (λ f. rw f (first-each P rs (p .1)))
+
 -- a condition passed: it doesn't hold, and the next one counts
 pub pass : (t : Bool) (n rest : ℕ) → cond t (suc n) rest ≡ 0 → (t ≡ false) × (rest ≡ 0)
 pass true n rest e = absurd (omega arith)
 pass false n rest e = (refl, e)
+
+-- a condition of two parts passed: neither holds
+pub neither : (s t : Bool) → s || t ≡ false → (s ≡ false) × (t ≡ false)
+neither true t e = absurd (false≢true (sym e))
+neither false t e = (refl, e)
 
 -- what a refusal leaves
 pub refused {ℓ} : {A : Type ℓ} (n : ℕ) (new old : A) → (n ≡ 0 → ⊥) → unless n new old ≡ old

@@ -2,7 +2,7 @@
 use Prim.Native.Nat.{ℕ, _/_, _%_, _≤_, _<_}
 use native.Mathlib.Omega.{arith}
 use mathlib.Core.Path.{_≡_, refl, sym, ap, ap₂, _∙_}
-use mathlib.Core.Bool.{Bool, true, false, not, _&&_, _||_, false≢true}
+use mathlib.Core.Bool.{Bool, true, false, not, _&&_, _||_}
 use mathlib.Core.List.{List, [], _∷_}
 use lib.ListN.{length, take, drop, getD, length-drop}
 use lib.Seq.{length-take-le}
@@ -21,16 +21,12 @@ use Rattle.books.specs.JournalCount.{journalCountCall}
 use Rattle.books.specs.Numbers.{Refusal, first}
 use Rattle.books.proofs.Checks.{check-sound, checked-sizes, seen-refused, seen-sound}
 use Rattle.books.proofs.JournalCountCases.{word-wrong, word-counted, word-room}
-use Rattle.books.proofs.Refusals.{pass, refused}
+use Rattle.books.proofs.Refusals.{pass, neither, refused}
 use Rattle.list.specs.ListCall.{Asked, wrongOutput, listRefusals, dueIn, due, fitting, wrote, written, listCall}
 use Rattle.list.specs.Moving.{WordIfAfter}
 use Rattle.list.specs.Next.{fromThere, tableOf}
 use Rattle.list.proofs.Ends.{EndOf, end-there}
 use Rattle.list.proofs.TableOf.{same-list, empty-count}
-
-neither : (s t : Bool) → s || t ≡ false → (s ≡ false) × (t ≡ false)
-neither true t e = absurd (false≢true (sym e))
-neither false t e = (refl, e)
 
 -- what a call that is done was given
 pub record Allowed (a : Asked) : Type 0 where

@@ -1,9 +1,9 @@
--- How large the check's record and byte can be, how many open journals and live rows there are, and how many words the list can
+-- How large the parts of the check's answer can be, how many open journals and live rows there are, and how many words the list can
 -- write, so that they fit into one number. Assumes nothing.
 use Prim.Native.Nat.{ℕ, _*_, _+_, _/_, _%_, _≤_, _<_}
 use native.Mathlib.Omega.{arith}
-use mathlib.Core.Path.{_≡_, refl, subst, sym, ap, _∙_}
-use mathlib.Core.Bool.{Bool, true, false, not, _||_, false≢true}
+use mathlib.Core.Path.{_≡_, subst, sym, ap, _∙_}
+use mathlib.Core.Bool.{Bool, true, false, not, _||_}
 use mathlib.Core.List.{List}
 use lib.ListN.{length, length-take}
 use lib.Dec.{eqb, ltb}
@@ -20,21 +20,21 @@ use Rattle.books.proofs.BookSizes.{both-sized}
 use Rattle.books.proofs.Checks.{check-verdict}
 use Rattle.books.proofs.LiveRowsCases.{live-few}
 use Rattle.books.proofs.OpenJournalsCases.{open-few}
-use Rattle.books.proofs.Refusals.{pass, told-most}
+use Rattle.books.proofs.Refusals.{pass, neither, told-most}
 use Rattle.list.specs.ListCall.{Asked, Wrote, wrongOutput, listRefusals, due, fitting, wrote, listCall}
 use Rattle.list.specs.declared.Listed.{Listed}
 use Rattle.selquorin.specs.Packed.{flagged, packedList}
 
--- a record is at most 1,000, and a byte below 64
+-- a record is at most 1,000, a byte below 64, and number and book are at most 2
 abbrev pub Small : Checked → Type 0
-Small c = (c .at ≤ 1000) × (c .byte < 64)
+Small c = (c .at ≤ 1000) × (c .byte < 64) × (c .number ≤ 2) × (c .book ≤ 2)
 
 verdict-small : (jb rb : List ℕ) {c : Checked} → Verdict jb rb c → Small c
-verdict-small jb rb (wrong-sizes w) = (omega arith, omega arith)
-verdict-small jb rb (book-one w f) = (omega (arith, f .within), omega arith)
-verdict-small jb rb (too-many w f m) = (omega arith, omega arith)
-verdict-small jb rb (book-two {r = r} {i = i} w f m b d) = (omega (arith, d .within, both-sized jb rb w .1), b)
-verdict-small jb rb (all-right t) = (omega arith, omega arith)
+verdict-small jb rb (wrong-sizes w) = (omega arith, omega arith, omega arith, omega arith)
+verdict-small jb rb (book-one w f) = (omega (arith, f .within), omega arith, omega arith, omega arith)
+verdict-small jb rb (too-many w f m) = (omega arith, omega arith, omega arith, omega arith)
+verdict-small jb rb (book-two {r = r} {i = i} w f m b d) = (omega (arith, d .within, both-sized jb rb w .1), b, omega arith, omega arith)
+verdict-small jb rb (all-right t) = (omega arith, omega arith, omega arith, omega arith)
 
 pub small : (jb rb : List ℕ) {c : Checked} → c ≡ checkCall jb rb → Small c
 small jb rb e = subst Small (sym e) (verdict-small jb rb (check-verdict jb rb))
@@ -51,10 +51,6 @@ pub flag-small : (b : Bool) {f : ℕ} → f ≡ flagged b → f ≤ 1
 flag-small true e = omega (arith, e)
 flag-small false e = omega (arith, e)
 
-neither : (s t : Bool) → s || t ≡ false → (s ≡ false) × (t ≡ false)
-neither true t e = absurd (false≢true (sym e))
-neither false t e = (refl, e)
-
 -- an output that isn't refused has at most 65,536 bytes
 output-small : (a : Asked) → first (listRefusals a) ≡ 0 → length (a .out) ≤ 65536
 output-small a e =
@@ -68,7 +64,7 @@ output-small a e =
 fitting-few : (a : Asked) → length (a .out) ≤ 65536 → length (fitting a) ≤ 4096
 fitting-few a h = omega (arith, length-take (length (a .out) / 16) (due a))
 
-call-few : (a : Asked) → listCall a .answer .written ≤ 4096
+pub call-few : (a : Asked) → listCall a .answer .written ≤ 4096
 unfolding listCall
 call-few a = told-most (first (listRefusals a)) (length (fitting a)) 4096 (λ e. fitting-few a (output-small a e))
 

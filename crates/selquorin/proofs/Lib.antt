@@ -1,2 +1,3 @@
 mod Bounds
 pub mod OneOutcome
+pub mod Unpacked

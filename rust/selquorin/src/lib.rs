@@ -11,6 +11,10 @@
 //! made, and the library's numbers become [`Error`]s and a [`Verdict`]. The module [`raw`] has the
 //! calls as they are, for bytes of any length and content.
 //!
+//! The calls keep their scratch on the stack. [`Books::append`] takes the most of it: about 140 KB,
+//! so that a thread with 136 KB of stack dies and one with 144 KB lives. A thread that makes calls
+//! should have 256 KB, as the header for C asks too; what Rust gives a thread by itself is more.
+//!
 //! ```
 //! use selquorin::{Books, Error, Step, Verdict, Word};
 //!
