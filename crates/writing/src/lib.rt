@@ -63,7 +63,8 @@ pub fn rebuild(journals: &[u8], rows: &mut [u8]) -> u8
     if !right_sizes(journals, rows) {
         return WRONG_SIZE;
     }
-    if journal::first_wrong_record(journals) != JOURNALS {
+    let wrong = journal::first_wrong_record(journals);
+    if wrong != JOURNALS {
         return DAMAGED;
     }
     write_rows(journals, rows)
