@@ -2,16 +2,13 @@
 
 mod arcs;
 mod drawing;
-mod nexts;
-mod state;
-mod states;
 
 use drawing::draw_rows;
 use keys::KEYS_ROOM;
-use nexts::ALL_NEXTS;
-use nexts::tabulate;
 use records::ROWS;
 use states::find_states;
+use states::nexts::ALL_NEXTS;
+use states::nexts::tabulate;
 ghost use mathlib.Core.Path.{_≡_};
 ghost use mathlib.Core.Bool.{true};
 ghost use lib.ListN.{length};
