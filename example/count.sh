@@ -1,7 +1,7 @@
 #!/usr/bin/env bash
 # Compiles the example in C against the static library, which is made where it is missing, and holds what it prints to count.txt.
 set -eu
-cd "$(dirname "$0")/.."
+cd "$(dirname "$(readlink -f "$0")")/.."
 
 library=$(bash rust/archive.sh)
 cc -Wall -Wextra -Werror -std=c99 -Iinclude example/count.c "$library/libselquorin.a" -o target/count
