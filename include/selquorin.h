@@ -75,7 +75,7 @@ enum selquorin_number {
     SELQUORIN_WRONG_STEP = 3,    /* a step above 15 */
     SELQUORIN_NO_JOURNAL = 4,    /* append with no journal open */
     SELQUORIN_JOURNAL_FULL = 5,  /* the last journal has 200 steps */
-    SELQUORIN_ROWS_FULL = 6,     /* with this step there would be more than 1,000 rows */
+    SELQUORIN_ROWS_FULL = 6,     /* there would be more than 1,000 rows */
     SELQUORIN_JOURNALS_FULL = 7, /* 16 journals are open already */
     SELQUORIN_WRONG_QUORUM = 8,  /* quorum below 1 or above the number of journals */
     SELQUORIN_WRONG_LENGTH = 9,  /* list length above 15 */
@@ -173,7 +173,7 @@ static inline const char *selquorin_message(unsigned number) {
         "a step's code is above 15",
         "no journal is open that the step could be appended to",
         "the last journal is full: it has 200 steps",
-        "no room: with this step there would be more than 1,000 rows",
+        "no room: there would be more than 1,000 rows",
         "no room: 16 journals are open already",
         "the quorum is not between 1 and the number of journals",
         "the list's length is above 15",
