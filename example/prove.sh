@@ -24,7 +24,7 @@ progress() {
     status=0
     IFS= read -r -t 30 line || status=$?
     if [ "$status" -gt 128 ]; then
-      echo "still proving, after $SECONDS s"
+      echo "still proving: $at of $1 done after $SECONDS s"
     elif [ "$status" -gt 0 ]; then
       return
     elif [[ $line =~ ^rt:\ ([a-z0-9_]+)\ proved\ \((.*)\)$ ]]; then
