@@ -1,4 +1,4 @@
-//! The calls straight from their rules.
+//! The calls of document 01, and how many journals and rows there are, straight from its rules.
 //!
 //! This crate shares no code with the proved library or its wrapper. It is there to be compared
 //! with, so it prefers the plain way of saying a thing: journals as rows of steps, states as rows
