@@ -79,6 +79,12 @@ mod library {
             rows_length: usize,
             step: u8,
         ) -> u8;
+        pub fn selquorin_rebuild(
+            journals: *const u8,
+            journals_length: usize,
+            rows: *mut u8,
+            rows_length: usize,
+        ) -> u8;
         pub fn selquorin_table_count(
             rows: *const u8,
             rows_length: usize,
@@ -157,6 +163,19 @@ pub fn append(journals: &mut [u8], rows: &mut [u8], step: u8) -> u8 {
             rows.as_mut_ptr(),
             rows.len(),
             step,
+        )
+    }
+}
+
+/// Draws the row book anew from the journal book. Numbers: 1, 2, 6.
+pub fn rebuild(journals: &[u8], rows: &mut [u8]) -> u8 {
+    // SAFETY: both are lent whole, the row book for writing, and they don't overlap.
+    unsafe {
+        library::selquorin_rebuild(
+            journals.as_ptr(),
+            journals.len(),
+            rows.as_mut_ptr(),
+            rows.len(),
         )
     }
 }
