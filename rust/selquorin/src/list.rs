@@ -154,3 +154,23 @@ impl Iterator for WordsWithCounts<'_> {
 }
 
 impl FusedIterator for WordsWithCounts<'_> {}
+
+#[cfg(test)]
+mod tests {
+    use crate::{Books, Step};
+
+    #[test]
+    fn words_are_shown_without_their_page() {
+        let mut books = Books::new();
+        books.open().unwrap();
+        books.append(Step::default()).unwrap();
+        books.append(Step::default()).unwrap();
+        let mut words = books.list_paged(1, 15, None, 2).unwrap();
+        words.next();
+        let first = "Words { quorum: 1, length: 15, fetched: 1, more: true, .. }";
+        assert_eq!(format!("{words:?}"), first);
+        let counted = words.with_counts();
+        let wanted = format!("WordsWithCounts {{ words: {first} }}");
+        assert_eq!(format!("{counted:?}"), wanted);
+    }
+}
