@@ -54,17 +54,17 @@ impl<'a> Words<'a> {
     /// # use selquorin::{Books, Error, Step};
     /// # fn main() -> Result<(), Error> {
     /// let mut books = Books::new();
-    /// for journal in [[1, 2, 1], [1, 1, 2]] {
+    /// for journal in [[4, 9], [9, 4]] {
     ///     books.open()?;
     ///     for code in journal {
     ///         books.append(Step::new(code)?)?;
     ///     }
     /// }
     /// // The words that one journal holds and the other doesn't.
-    /// let words = books.list(1, 3)?.with_counts();
+    /// let words = books.list(1, 2)?.with_counts();
     /// let alone = words.filter(|(_, count)| *count == 1);
     /// let alone: Vec<String> = alone.map(|(word, _)| word.to_string()).collect();
-    /// assert_eq!(alone, ["1 1 2", "1 2 1", "2 1"]);
+    /// assert_eq!(alone, ["4 9", "9 4"]);
     /// # Ok(())
     /// # }
     /// ```
