@@ -17,6 +17,7 @@ impl Seen {
             Call::Clear => "clear",
             Call::Open => "open",
             Call::Append(_) => "append",
+            Call::Rebuild => "rebuild",
             Call::TableCount(_) => "table count",
             Call::JournalCount(_) => "journal count",
             Call::OpenJournals => "open journals",
@@ -47,7 +48,7 @@ impl Seen {
 
     /// Every number that a call may answer and that has not been seen.
     pub fn missing(&self) -> Vec<&'static str> {
-        const ALL: [&str; 49] = [
+        const ALL: [&str; 53] = [
             "clear: 0",
             "clear: 1",
             "open: 0",
@@ -61,6 +62,10 @@ impl Seen {
             "append: 4",
             "append: 5",
             "append: 6",
+            "rebuild: 0",
+            "rebuild: 1",
+            "rebuild: 2",
+            "rebuild: 6",
             "table count: 0",
             "table count: 1",
             "table count: 2",
@@ -291,7 +296,8 @@ impl Run {
             }
             66..=68 => self.call(Call::OpenJournals).map(drop),
             69..=71 => self.call(Call::LiveRows).map(drop),
-            72..=77 => self.call(Call::Check).map(drop),
+            72..=73 => self.call(Call::Rebuild).map(drop),
+            74..=77 => self.call(Call::Check).map(drop),
             78..=93 => {
                 let list = self.list();
                 self.call(list).map(drop)
