@@ -9,6 +9,9 @@ use std::collections::BTreeMap;
 pub struct Seen(pub BTreeMap<String, u64>);
 
 impl Seen {
+    /// How often a call was made on borrowed books too, whatever it answered.
+    pub const BORROWED: &'static str = "on borrowed books";
+
     fn note(&mut self, call: &Call, answer: Answer) {
         let name = match call {
             Call::Clear => "clear",
@@ -218,6 +221,8 @@ pub fn run(seed: u64, number: u64) -> (Seen, u64, Option<Difference>) {
         damaged_for: 0,
     };
     let difference = run.go().err();
+    let by_borrowed = run.pair.by_borrowed;
+    run.seen.0.insert(Seen::BORROWED.to_string(), by_borrowed);
     (run.seen, run.pair.calls, difference)
 }
 

@@ -4,6 +4,9 @@
 //! with 0 for "done" or the number of an [`Error`](crate::Error), and a refusal writes nothing.
 //! These functions only turn slices into pointers with lengths, and packed answers into fields.
 
+use crate::Step;
+use std::slice;
+
 /// What a count answers.
 #[derive(Clone, Copy, Debug, PartialEq, Eq)]
 pub struct Counted {
@@ -284,4 +287,37 @@ pub fn list(
 pub fn row_record_number(rows: &[u8], row: usize) -> u8 {
     // SAFETY: the book is lent whole, and only read.
     unsafe { library::selquorin_row_record_number(rows.as_ptr(), rows.len(), row) }
+}
+
+/// The codes of some steps, where they stand.
+pub(crate) fn codes(steps: &[Step]) -> &[u8] {
+    // SAFETY: a step is laid out as its code is, and both are only read as long as they are lent.
+    unsafe { slice::from_raw_parts(steps.as_ptr().cast(), steps.len()) }
+}
+
+/// The steps of some codes, where they stand; none if a code is above 15.
+pub(crate) fn steps(codes: &[u8]) -> Option<&[Step]> {
+    if codes.iter().any(|&code| Step::new(code).is_err()) {
+        return None;
+    }
+    // SAFETY: a step is laid out as its code is, each code is that of a step, and both are only
+    // read as long as they are lent.
+    Some(unsafe { slice::from_raw_parts(codes.as_ptr().cast(), codes.len()) })
+}
+
+#[cfg(test)]
+mod tests {
+    use super::*;
+
+    #[test]
+    fn steps_and_codes_are_the_same_bytes() {
+        let all: Vec<u8> = (0..=16).collect();
+        for n in 0..=16 {
+            let row = steps(&all[..n]).unwrap();
+            assert!(row.iter().map(|step| step.code()).eq(0..n as u8));
+            assert_eq!(codes(row), &all[..n]);
+        }
+        assert_eq!(steps(&all), None);
+        assert_eq!(steps(&[0, 255, 0]), None);
+    }
 }
