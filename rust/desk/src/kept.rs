@@ -1,0 +1,40 @@
+//! Books in a file: the journal book, then the row book.
+
+use crate::entries;
+use crate::failure::{Failure, Part};
+use crate::replace::replace;
+use crate::source::Source;
+use selquorin::{Books, Error, JOURNAL_BOOK, ROW_BOOK};
+use std::path::Path;
+
+/// The bytes of a file of books.
+const KEPT: usize = JOURNAL_BOOK + ROW_BOOK;
+
+/// The books of a file, sound or not.
+pub fn books(source: &Source) -> Result<Books, Failure> {
+    let bytes = source.read(KEPT + 1)?;
+    let (journals, rows) = bytes.split_at(bytes.len().min(JOURNAL_BOOK));
+    Books::from_bytes(journals, rows).map_err(|error| wrong_size(source, error, bytes.len()))
+}
+
+fn wrong_size(source: &Source, error: Error, bytes: usize) -> Failure {
+    // Of a longer one no more was read.
+    let has = if bytes < KEPT {
+        bytes.to_string()
+    } else {
+        "more".to_string()
+    };
+    let why = format!("a file of books has {KEPT} bytes, and this one has {has}");
+    Failure::refused_as(Part::Books(source.clone()), error, why)
+}
+
+/// Loads entries and keeps their books. A refused entry leaves the file as it was.
+pub fn load(source: &Source, file: &Path) -> Result<(), Failure> {
+    let books = entries::books(source)?;
+    keep(&books, file)
+}
+
+fn keep(books: &Books, file: &Path) -> Result<(), Failure> {
+    let bytes = [&books.journals()[..], &books.rows()[..]].concat();
+    replace(file, &bytes).map_err(Failure::of(file.display()))
+}
