@@ -64,7 +64,7 @@ enum selquorin_number {
     SELQUORIN_WRONG_STEP = 3,    /* a step above 15 */
     SELQUORIN_NO_JOURNAL = 4,    /* append with no journal open */
     SELQUORIN_JOURNAL_FULL = 5,  /* the last journal has 200 steps */
-    SELQUORIN_ROWS_FULL = 6,     /* with this step there would be more than 1,000 rows */
+    SELQUORIN_ROWS_FULL = 6,     /* there would be more than 1,000 rows */
     SELQUORIN_JOURNALS_FULL = 7, /* 16 journals are open already */
     SELQUORIN_WRONG_QUORUM = 8,  /* quorum below 1 or above the number of journals */
     SELQUORIN_WRONG_LENGTH = 9,  /* list length above 15 */
@@ -85,6 +85,14 @@ uint8_t selquorin_open(uint8_t *journals, size_t journals_length, uint8_t *rows,
 /* Appends a step to the journal opened last. Refusals: 1, 2, 3, 4, 5, 6. */
 uint8_t selquorin_append(uint8_t *journals, size_t journals_length, uint8_t *rows,
                          size_t rows_length, uint8_t step);
+
+/*
+ * Draws the row book anew from the journal book, which is only read: whatever the row book held, it
+ * is then the one of these journals, and the books are sound. Number 2 means that the journal book
+ * lacks its form, 6 that its journals have more than 1,000 live states. Refusals: 1, 2, 6.
+ */
+uint8_t selquorin_rebuild(const uint8_t *journals, size_t journals_length, uint8_t *rows,
+                          size_t rows_length);
 
 /*
  * In how many journals a word is, by the row book alone. The word is its steps, one byte each, and

@@ -1,12 +1,12 @@
 #!/usr/bin/env bash
 # The tests of the Rust crates, against the proved library, which archive.sh makes; or against that in the folder that
-# SELQUORIN_LIB names. Its last line is 'rust: N passed, M failed', summed over cargo's result lines; its status is not 0 if
+# SELQUORIN_LIB names. The random runs are long, unless SELQUORIN_CALLS says another number of calls. Its last line is 'rust: N passed, M failed', summed over cargo's result lines; its status is not 0 if
 # anything failed.
 set -u
 cd "$(dirname "$0")" || exit 2
 SELQUORIN_LIB=$(if [ -n "${SELQUORIN_LIB:-}" ]; then cd "$OLDPWD" && cd "$SELQUORIN_LIB" && pwd; else bash archive.sh; fi) ||
   { echo 'rust: the static library was not built'; exit 1; }
-export SELQUORIN_LIB
+export SELQUORIN_LIB SELQUORIN_CALLS="${SELQUORIN_CALLS:-200000}"
 
 log=$(mktemp) || exit 2
 trap 'rm -f "$log"' EXIT

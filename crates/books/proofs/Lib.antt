@@ -16,4 +16,5 @@ pub mod OpenCases
 pub mod AppendCases
 pub mod OpenJournalsCases
 pub mod LiveRowsCases
+pub mod RebuildCases
 pub mod Runs

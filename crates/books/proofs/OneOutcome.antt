@@ -10,6 +10,7 @@ use Rattle.books.specs.JournalCount.{journalCountCall}
 use Rattle.books.specs.LiveRows.{liveRowsCall}
 use Rattle.books.specs.Open.{openCall}
 use Rattle.books.specs.OpenJournals.{openJournalsCall}
+use Rattle.books.specs.Rebuild.{rebuildCall}
 use Rattle.books.specs.RowRecord.{rowRecordCall, rowRecordNumberCall}
 use Rattle.books.specs.TableCount.{tableCountCall}
 
@@ -29,6 +30,9 @@ open-one jb rb = one-outcome (openCall jb rb)
 
 pub append-one : (jb rb : List ℕ) (s : ℕ) → OneOutcome (appendCall jb rb s)
 append-one jb rb s = one-outcome (appendCall jb rb s)
+
+pub rebuild-one : (jb rb : List ℕ) → OneOutcome (rebuildCall jb rb)
+rebuild-one jb rb = one-outcome (rebuildCall jb rb)
 
 pub table-count-one : (rb w : List ℕ) → OneOutcome (tableCountCall rb w)
 table-count-one rb w = one-outcome (tableCountCall rb w)

@@ -19,7 +19,8 @@ use Rattle.books.specs.JournalCount.{journalCountRefusals, journalCountC
 use Rattle.books.specs.RowRecord.{rowRecordRefusals, rowRecordNumberCall, rowRecordCall}
 use Rattle.books.specs.OpenJournals.{openJournalsRefusals, openJournalsCall}
 use Rattle.books.specs.LiveRows.{liveRowsRefusals, liveRowsCall}
-use Rattle.books.specs.Runs.{Call, clears, opens, appends, called, refusals}
+use Rattle.books.specs.Rebuild.{rebuildCall}
+use Rattle.books.specs.Runs.{Call, clears, opens, appends, rebuilds, called, refusals}
 
 -- the number that counts is given
 pub first-given : (rs : List Refusal) → Given rs (first rs)
@@ -70,24 +71,26 @@ pub told-most : (n a m : ℕ) → (n ≡ 0 → a ≤ m) → unless n a 0 ≤ m
 told-most zero a m h = h refl
 told-most (suc n) a m h = omega arith
 
--- clear, open and append: the numbers
+-- clear, open, append and rebuild: the numbers
 pub call-numbers : (c : Call) (jb rb : List ℕ) → Given (refusals c jb rb) (called c jb rb .number)
-unfolding clearCall openCall appendAtCall appendCall
+unfolding clearCall openCall appendAtCall appendCall rebuildCall
 call-numbers clears jb rb = first-given _
 call-numbers opens jb rb = first-given _
 call-numbers (appends s) jb rb = first-given _
+call-numbers rebuilds jb rb = first-given _
 
 -- append: at the last journal, number 4's condition is that no journal is open
 pub append-none-open : (js : List (List ℕ)) → leb (length js) (lastOf js) ≡ eqb (length js) 0
 append-none-open [] = refl
 append-none-open (j ∷ js) = lt-leb (length (j ∷ js)) (lastOf (j ∷ js)) (omega arith) ∙ sym (ne-eqb (length (j ∷ js)) 0 (λ e. omega arith))
 
--- clear, open and append: a refusal writes nothing
+-- clear, open, append and rebuild: a refusal writes nothing
 pub call-refused : (c : Call) (jb rb : List ℕ) → (called c jb rb .number ≡ 0 → ⊥) → (called c jb rb .journals ≡ jb) × (called c jb rb .rows ≡ rb)
-unfolding clearCall openCall appendAtCall appendCall
+unfolding clearCall openCall appendAtCall appendCall rebuildCall
 call-refused clears jb rb h = (refused _ _ jb h, refused _ _ rb h)
 call-refused opens jb rb h = (refused _ _ jb h, refused _ _ rb h)
 call-refused (appends s) jb rb h = (refused _ _ jb h, refused _ _ rb h)
+call-refused rebuilds jb rb h = (refl, refused _ _ rb h)
 
 -- table count: the numbers; a refusal has the count 0
 pub table-count-numbers : (rb w : List ℕ) → Given (tableCountRefusals rb w) (tableCountCall rb w .number)

@@ -9,7 +9,7 @@ use Rattle.books.specs.Clear.{clearCall, zeros}
 use Rattle.books.specs.Numbers.{first, unless}
 use Rattle.books.specs.Open.{openRefusals, openCall}
 use Rattle.books.specs.Runs.{Call, clears, called, means, Ran, runFrom, cleared}
-use Rattle.books.specs.Runs.{opens, appends}
+use Rattle.books.specs.Runs.{opens, appends, rebuilds}
 use Rattle.records.specs.JournalBook.{journalsOf, journalBook}
 use Rattle.records.specs.RowBook.{rowBook}
 use Rattle.records.specs.Sound.{BooksOf}
@@ -19,6 +19,7 @@ use Rattle.words.specs.Words.{AreJournals}
 use Rattle.books.proofs.BookSizes.{both-sized}
 use Rattle.books.proofs.OpenCases.{can-open}
 use Rattle.books.proofs.AppendCases.{append-fits}
+use Rattle.books.proofs.RebuildCases.{rebuild-keeps}
 use Rattle.records.proofs.Sound.{books-journals, books-sizes, cleared-books}
 
 -- the books of the journals
@@ -51,6 +52,7 @@ module _ (js : List (List ℕ)) (jb rb : List ℕ) (b : BooksOf js jb rb) where
   call-keeps opens = left (first (openRefusals jb rb)) (opened js) (opened (journalsOf jb)) js jb rb (ap opened (books-journals b)) b opens-fits
   call-keeps (appends s) =
       left (first (appendRefusals jb rb (lastOf (journalsOf jb)) s)) (appended s js) (appended s (journalsOf jb)) js jb rb (ap (appended s) (books-journals b)) b (appends-fits s)
+  call-keeps rebuilds = rw (rebuild-keeps b) b
 
 run-keeps : (cs : List Call) (r : Ran) → BooksOf (r .journals) (r .journal-book) (r .row-book)
     → BooksOf (runFrom r cs .journals) (runFrom r cs .journal-book) (runFrom r cs .row-book)

@@ -15,19 +15,28 @@ use Rattle.books.specs.Clear.{after}
 use Rattle.books.specs.Write.{written, rowsRefusal, writeCall}
 use Rattle.books.proofs.Refusals.{refused}
 
+-- the picture's number by how many live states there are
+module _ (js : List (List ℕ)) where
+  pub rows-full : 1000 < length (picture js) → rowsFull ≡ first (rowsRefusal js ∷ [])
+  rows-full m = rw (lt-ltb 1000 (length (picture js)) m)
+
+  pub rows-fit : length (picture js) ≤ 1000 → done ≡ first (rowsRefusal js ∷ [])
+  rows-fit m = rw (le-ltb 1000 (length (picture js)) m)
+
 module _ (js : List (List ℕ)) (jb rb : List ℕ) where
-  pub write-full : 1000 < length (picture js) → after rowsFull jb rb ≡ writeCall js jb rb
-  unfolding writeCall
-  write-full m = rw (lt-ltb 1000 (length (picture js)) m)
-
-  pub write-done : length (picture js) ≤ 1000 → after done (journalBook js) (rowBook js) ≡ writeCall js jb rb
-  unfolding writeCall
-  write-done m = rw (le-ltb 1000 (length (picture js)) m)
-
   -- a number that was given before anything is written
   pub written-refused : (n m : ℕ) → n ≡ m → (n ≡ 0 → ⊥) → after n jb rb ≡ written m js jb rb
   written-refused n m e h =
       ap₂ (after n) (sym (refused n (journalBook js) jb h)) (sym (refused n (rowBook js) rb h)) ∙ ap (λ (k : ℕ). written k js jb rb) e
+
+  -- the writer, refused and done
+  pub write-refused : (n : ℕ) → n ≡ first (rowsRefusal js ∷ []) → (n ≡ 0 → ⊥) → after n jb rb ≡ writeCall js jb rb
+  unfolding writeCall
+  write-refused n e h = written-refused n (first (rowsRefusal js ∷ [])) e h
+
+  pub write-done : done ≡ first (rowsRefusal js ∷ []) → after done (journalBook js) (rowBook js) ≡ writeCall js jb rb
+  unfolding writeCall
+  write-done e = ap (λ (k : ℕ). written k js jb rb) e
 
   -- no such number: what the writer does is what the call does
   pub written-last : (m : ℕ) → m ≡ first (rowsRefusal js ∷ []) → writeCall js jb rb ≡ written m js jb rb

@@ -9,4 +9,5 @@ pub mod Check
 pub mod RowRecord
 pub mod OpenJournals
 pub mod LiveRows
+pub mod Rebuild
 pub mod Runs

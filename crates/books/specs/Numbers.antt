@@ -28,7 +28,7 @@ noJournal = 4
 abbrev pub journalFull : ℕ
 journalFull = 5
 
--- 6: the appended step would need a 1,001st row
+-- 6: a 1,001st row would be needed
 abbrev pub rowsFull : ℕ
 rowsFull = 6
 

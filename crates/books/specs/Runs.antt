@@ -9,30 +9,35 @@ use Rattle.books.specs.Numbers.{Refusal, unless}
 use Rattle.books.specs.Clear.{After, clearRefusals, clearCall}
 use Rattle.books.specs.Open.{openRefusals, openCall}
 use Rattle.books.specs.Append.{appendRefusals, appendCall}
+use Rattle.books.specs.Rebuild.{rebuildRefusals, rebuildCall}
 
--- the calls that the books are lent to write; every other call is lent them to read
+-- the calls that are lent a book to write: both, or for rebuild the row book; every other call is lent them to read
 pub data Call : Type 0 where
   clears : Call
   opens : Call
   appends : ℕ → Call
+  rebuilds : Call
 
 -- what a call answers, and the books after it
 abbrev pub called : Call → List ℕ → List ℕ → After
 called clears jb rb = clearCall jb rb
 called opens jb rb = openCall jb rb
 called (appends s) jb rb = appendCall jb rb s
+called rebuilds jb rb = rebuildCall jb rb
 
 -- the conditions of its numbers, in their order
 abbrev pub refusals : Call → List ℕ → List ℕ → List Refusal
 refusals clears jb rb = clearRefusals jb rb
 refusals opens jb rb = openRefusals jb rb
 refusals (appends s) jb rb = appendRefusals jb rb (lastOf (journalsOf jb)) s
+refusals rebuilds jb rb = rebuildRefusals jb rb
 
 -- what a call that is done means for the journals
 abbrev pub means : Call → List (List ℕ) → List (List ℕ)
 means clears js = []
 means opens js = opened js
 means (appends s) js = appended s js
+means rebuilds js = js
 
 -- the books after a run of calls, and the journals opened and steps accepted since the last clearing:
 -- a call that answers 0 is taken, any other changes nothing

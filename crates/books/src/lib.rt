@@ -18,6 +18,7 @@ ghost use Rattle.books.specs.Check.{checkCall};
 ghost use Rattle.books.specs.RowRecord.{rowRecordCall, rowRecordNumberCall};
 ghost use Rattle.books.specs.OpenJournals.{openJournalsCall};
 ghost use Rattle.books.specs.LiveRows.{liveRowsCall};
+ghost use Rattle.books.specs.Rebuild.{rebuildCall};
 use appending::append_at;
 use checking::see;
 use number::DAMAGED;
@@ -40,6 +41,7 @@ use size::right_sizes;
 use words::JOURNALS;
 use words::STEP_CODES;
 use writing::write_books;
+use writing::write_rows;
 
 // What a count answers: a number of document 01, and the count.
 pub struct Counted {
@@ -102,6 +104,19 @@ pub fn append(journals: &mut [u8], rows: &mut [u8], step: u8) -> u8
     // Only a book of its size can be asked for its last journal.
     let last = journal::last_journal(journals);
     append_at(journals, rows, last, step)
+}
+
+// Draws the row book anew from the journal book alone, whatever the row book held.
+pub fn rebuild(journals: &[u8], rows: &mut [u8]) -> u8
+    ensures { λ r. ⌜ after r (now (journals .entry)) (now (rows .exit)) ≡ rebuildCall (now (journals .entry)) (now (rows .entry)) ⌝ }
+{
+    if !right_sizes(journals, rows) {
+        return WRONG_SIZE;
+    }
+    if journal::first_wrong_record(journals) != JOURNALS {
+        return DAMAGED;
+    }
+    write_rows(journals, rows)
 }
 
 // Counts a word by the row book alone: walks from row 0 along the word's steps, and answers the last row's count.

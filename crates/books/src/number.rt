@@ -18,7 +18,7 @@ pub const NO_JOURNAL: u8 = 4;
 // The last journal has 200 steps.
 pub const JOURNAL_FULL: u8 = 5;
 
-// The appended step would need a 1,001st row.
+// A 1,001st row would be needed.
 pub const ROWS_FULL: u8 = 6;
 
 // 16 journals are open already.

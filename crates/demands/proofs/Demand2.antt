@@ -15,6 +15,7 @@ use Rattle.records.proofs.StepBytes.{steps-back, step-bytes-length, step-bytes-
 use Rattle.books.specs.JournalCount.{journalCountCall}
 use Rattle.books.specs.TableCount.{tableCountCall}
 use Rattle.books.proofs.Counts.{table-count-right, journal-count-right}
+use Rattle.books.proofs.RebuildCases.{rebuild-keeps}
 use Rattle.demands.specs.Demand2.{RightCount, Demand2}
 use Rattle.demands.proofs.Run.{reached-books, wrong-sizes-stay, swapped-stays}
 
@@ -32,6 +33,7 @@ demand-2 = record {
   by-table = λ b w k. table-right b w k;
   by-journals = λ b w k h. journal-right b w k h;
   after-runs = λ p. reached-books p;
+  rebuilding = λ p. rebuild-keeps (reached-books p);
   reading = λ jb rb c. (refl, refl);
   wrongly-lent = λ jb rb c l m w. wrong-sizes-stay jb rb c l m w;
   in-each-others-place = λ jb rb c w. swapped-stays jb rb c w;

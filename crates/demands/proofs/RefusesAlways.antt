@@ -21,6 +21,7 @@ use Rattle.books.specs.JournalCount.{journalCountCall}
 use Rattle.books.specs.LiveRows.{liveRowsCall}
 use Rattle.books.specs.Open.{openCall}
 use Rattle.books.specs.OpenJournals.{openJournalsCall}
+use Rattle.books.specs.Rebuild.{rebuildCall}
 use Rattle.books.specs.RowRecord.{rowRecordNumberCall, rowRecordCall}
 use Rattle.books.specs.TableCount.{tableCountCall}
 use Rattle.books.specs.declared.Checked.{Checked}
@@ -31,7 +32,7 @@ use Rattle.feed.specs.Ask.{askCall}
 use Rattle.feed.specs.Entry.{AfterFeeding, enter, entryCall, feedFrom, feedCall}
 use Rattle.feed.specs.declared.ask.Ask.{Ask}
 use Rattle.demands.proofs.Demand2.{demand-2}
-use Rattle.demands.proofs.WorkedBooks.{worked-books}
+use Rattle.demands.proofs.WorkedBooks.{spoilt, worked-books, rebuild-worked}
 
 -- cleared books, and one journal that has the step 1
 abbrev noJournals : List ℕ
@@ -67,6 +68,11 @@ append-done = refl
 
 pub append-refuses-always : (o : After) → (o .number ≡ 0 → ⊥) → o ≡ appendCall (journalBook single) (rowBook single) 1 → ⊥
 append-refuses-always = refuses (λ (o : After). o .number) (appendCall (journalBook single) (rowBook single) 1) append-done
+
+-- the worked journals beside a row book of other bytes: nor may those alone be refused
+pub rebuild-refuses-always : (o : After) → (o .number ≡ 0 → ⊥) → o ≡ rebuildCall (journalBook two) spoilt → ⊥
+rebuild-refuses-always =
+    refuses (λ (o : After). o .number) (rebuildCall (journalBook two) spoilt) (ap (λ (o : After). o .number) rebuild-worked)
 
 -- the empty word on the worked books
 pub table-count-refuses-always : (o : Counted) → (o .number ≡ 0 → ⊥) → o ≡ tableCountCall (rowBook two) [] → ⊥

@@ -17,7 +17,8 @@ use Rattle.books.specs.Append.{appendAtCall, appendCall}
 use Rattle.books.specs.Clear.{After, after, clearCall}
 use Rattle.books.specs.Numbers.{unless, wrongSize}
 use Rattle.books.specs.Open.{openCall}
-use Rattle.books.specs.Runs.{Call, clears, opens, appends, called, Ran}
+use Rattle.books.specs.Rebuild.{rebuildCall}
+use Rattle.books.specs.Runs.{Call, clears, opens, appends, rebuilds, called, Ran}
 use Rattle.books.proofs.Refusals.{given-first, pass}
 use Rattle.books.proofs.Runs.{call-keeps}
 use Rattle.entries.specs.Entry.{entryOf}
@@ -36,10 +37,11 @@ use Rattle.demands.specs.Run.{Made, writes, reads, wrong-sizes, swapped,
 -- lent wrong sizes, a call leaves them
 module _ (x y : List ℕ) (f : rightSizes x y ≡ false) where
   size-refused : (c : Call) → called c x y ≡ after wrongSize x y
-  unfolding clearCall openCall appendAtCall appendCall
+  unfolding clearCall openCall appendAtCall appendCall rebuildCall
   size-refused clears = rw f
   size-refused opens = rw f
   size-refused (appends s) = rw f
+  size-refused rebuilds = rw f
 
   entry-refused : (n s : ℕ) → entryCall x y n s .number ≡ 0 → ⊥
   entry-refused n s z =

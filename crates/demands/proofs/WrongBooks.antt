@@ -1,5 +1,5 @@
--- Counts and appends that document 01 names as wrong break a promise: each by its outcome on one input, and so however the
--- version answers elsewhere. Assumes nothing.
+-- Counts and appends that document 01 names as wrong break a promise, and so does a rebuild that draws nothing: each by its outcome
+-- on one input, and so however the version answers elsewhere. Assumes nothing.
 use Prim.Native.Nat.{ℕ, zero, suc, _≤_, _<_}
 use native.Mathlib.Omega.{arith}
 use mathlib.Core.Path.{_≡_, refl, sym, ap, _∙_}
@@ -25,13 +25,14 @@ use Rattle.books.specs.Append.{appendAtCall, appendCall}
 use Rattle.books.specs.Clear.{After}
 use Rattle.books.specs.JournalCount.{journalCountCall}
 use Rattle.books.specs.Open.{openCall}
+use Rattle.books.specs.Rebuild.{rebuildCall}
 use Rattle.books.specs.Runs.{opens, appends, Ran, runFrom, cleared}
 use Rattle.books.specs.TableCount.{tableCountCall}
 use Rattle.books.specs.declared.Counted.{Counted}
 use Rattle.books.proofs.Refusals.{pass}
 use Rattle.books.proofs.Runs.{call-keeps, runs}
 use Rattle.demands.proofs.Demand2.{demand-2}
-use Rattle.demands.proofs.WorkedBooks.{worked-books}
+use Rattle.demands.proofs.WorkedBooks.{spoilt, worked-books, rebuild-worked}
 
 -- A wrong count, at any word on any sound books: the outcome's count isn't the number of journals that the word is in.
 module _ {js : List (List ℕ)} {jb rb : List ℕ} (b : BooksOf js jb rb) (w : List ℕ) (k : IsWord w) (o : Counted) (n : Counts w js (o .count) → ⊥) where
@@ -117,3 +118,14 @@ append-first-step-only s t o = append-leaves-journals (runs (opens ∷ appends s
 pub second-step-done : appendCall (firstStep 1 .journal-book) (firstStep 1 .row-book) 1 .number ≡ 0
 unfolding appendAtCall appendCall openCall opened sound journalForm firstWrongRecord journalsOf journalBook journalRecord stepBytes rowBook rowRecord picture
 second-step-done = refl
+
+-- byte 0 of the worked rows, and of the row book beside them
+first-place : getD (rowBook two) 0 0 ≡ 0
+unfolding rowBook rowRecord picture
+first-place = refl
+
+-- A rebuild that leaves the row book, whatever it says, beside the worked journals: the picture isn't what stood there.
+pub rebuild-leaves-rows : (o : After) → o .rows ≡ spoilt → o ≡ rebuildCall (journalBook two) spoilt → ⊥
+rebuild-leaves-rows o l e =
+    let z : _≡_ {A = ℕ} 7 0 = ap (λ (b : List ℕ). getD b 0 0) (sym l ∙ ap (λ (a : After). a .rows) (e ∙ rebuild-worked)) ∙ first-place in
+    omega arith

@@ -28,7 +28,7 @@ pub data Reading : Type 0 where
   live-rows : (journals rows : List ℕ) → Reading
   list : Asked → Reading
 
--- The calls that are lent both books to write: clear, open and append, one entry, and a row of entries.
+-- The calls that are lent a book to write: clear, open, append and rebuild, one entry, and a row of entries.
 pub data Writing : Type 0 where
   calls : Call → Writing
   entry : (number step : ℕ) → Writing

@@ -8,8 +8,10 @@ use Rattle.words.specs.Words.{IsWord, Counts}
 use Rattle.records.specs.Sizes.{longestWord}
 use Rattle.records.specs.Sound.{rightSizes, BooksOf}
 use Rattle.records.specs.WordRecord.{wordRecord}
+use Rattle.books.specs.Clear.{after}
 use Rattle.books.specs.JournalCount.{journalCountCall}
 use Rattle.books.specs.Numbers.{done}
+use Rattle.books.specs.Rebuild.{rebuildCall}
 use Rattle.books.specs.Runs.{Ran}
 use Rattle.books.specs.TableCount.{tableCountCall}
 use Rattle.books.specs.declared.Counted.{Counted}
@@ -30,6 +32,8 @@ pub record Demand2 : Type 0 where
       → RightCount js w (journalCountCall jb (wordRecord w))
   -- after any run the books are those of the journals opened and steps accepted since the last clearing
   pub after-runs : {r : Ran} → Reached r → BooksOf (r .journals) (r .journal-book) (r .row-book)
+  -- and rebuild is done there, and finds nothing to change
+  pub rebuilding : {r : Ran} → Reached r → rebuildCall (r .journal-book) (r .row-book) ≡ after done (r .journal-book) (r .row-book)
   -- of these calls, what only reads and what is lent wrong sizes changes neither book
   pub reading : (jb rb : List ℕ) (c : Reading) → Stay jb rb (left jb rb (reads c))
   pub wrongly-lent : (jb rb : List ℕ) (c : Writing) (l m : Lending) (w : rightSizes (lent l jb) (lent m rb) ≡ false)

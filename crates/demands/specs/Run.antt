@@ -15,11 +15,11 @@ use Rattle.demands.specs.Lending.{Lending, lent, handedBack}
 
 -- One call, made where the books are jb and rb.
 pub data Made (jb rb : List ℕ) : Type 0 where
-  -- lent both books to write
+  -- a call that writes, lent both books
   writes : Writing → Made jb rb
   -- a call that reads, given these books or any other bytes
   reads : Reading → Made jb rb
-  -- lent something else of the books to write: not both sizes are right
+  -- one that is lent something else of the books: not both sizes are right
   wrong-sizes : Writing → (l m : Lending) → rightSizes (lent l jb) (lent m rb) ≡ false → Made jb rb
   -- lent each book in the other's place
   swapped : Writing → rightSizes rb jb ≡ false → Made jb rb

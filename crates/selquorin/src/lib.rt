@@ -14,6 +14,7 @@ ghost use Rattle.list.specs.ListCall.{asked, listCall};
 ghost use Rattle.books.specs.RowRecord.{rowRecordNumberCall};
 ghost use Rattle.books.specs.OpenJournals.{openJournalsCall};
 ghost use Rattle.books.specs.LiveRows.{liveRowsCall};
+ghost use Rattle.books.specs.Rebuild.{rebuildCall};
 ghost use Rattle.selquorin.specs.Packed.{flagged, packedCount, packedCheck, packedList, packedJournals, packedRows};
 
 // Clears both books.
@@ -38,6 +39,14 @@ pub extern "C" fn selquorin_append(journals: &mut [u8], rows: &mut [u8], step: u
     ensures { λ r. ⌜ after r (now (journals .exit)) (now (rows .exit)) ≡ appendCall (now (journals .entry)) (now (rows .entry)) step ⌝ }
 {
     books::append(journals, rows, step)
+}
+
+// Draws the row book anew from the journal book.
+#[no_mangle]
+pub extern "C" fn selquorin_rebuild(journals: &[u8], rows: &mut [u8]) -> u8
+    ensures { λ r. ⌜ after r (now (journals .entry)) (now (rows .exit)) ≡ rebuildCall (now (journals .entry)) (now (rows .entry)) ⌝ }
+{
+    books::rebuild(journals, rows)
 }
 
 // A count's answer in one number: its number, and the count 256 times.

@@ -1,6 +1,6 @@
 //! The library and the plain implementation answer alike, and leave the same bytes, in random runs
-//! of calls. SELQUORIN_CALLS says how many calls at least (200,000), SELQUORIN_SEED the seed: a
-//! number, or `random` for another one each time.
+//! of calls. SELQUORIN_CALLS says how many calls at least: 20,000 unless it is set, and 200,000 in
+//! rust/run.sh. SELQUORIN_SEED is the seed: a number, or `random` for another one each time.
 
 use compare::{run, Seen};
 use std::io::Write;
@@ -8,7 +8,9 @@ use std::sync::atomic::{AtomicU64, Ordering};
 use std::sync::Mutex;
 use std::time::{SystemTime, UNIX_EPOCH};
 
-const CALLS: u64 = 200_000;
+const CALLS: u64 = 20_000;
+/// So many calls have to see every answer.
+const LONG: u64 = 200_000;
 const SEED: u64 = 1;
 
 /// Written past the test harness, so that it is seen also where all is well.
@@ -76,7 +78,7 @@ fn random_runs() {
         made.into_inner(),
         next.into_inner()
     ));
-    if least >= CALLS {
+    if least >= LONG {
         assert_eq!(seen.missing(), Vec::<&str>::new(), "answers never seen");
     }
 }

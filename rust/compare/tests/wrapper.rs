@@ -56,7 +56,7 @@ fn pages_make_the_whole_list() {
     for _ in 0..12 {
         let (books, journals, rows, k) = books(&mut random);
         assert_eq!(
-            (&books.journals()[..], &books.rows()[..]),
+            (&books.journal_bytes()[..], &books.row_bytes()[..]),
             (&journals[..], &rows[..])
         );
         assert_eq!(books.check(), Verdict::Sound);
@@ -173,7 +173,7 @@ fn damage_is_found_where_it_is() {
     let sound = books.clone();
     let word = Word::new(&[1, 2]).unwrap();
 
-    books.rows_mut()[64 * 2 + 48] = 17;
+    books.row_bytes_mut()[64 * 2 + 48] = 17;
     assert_eq!(books.check(), Verdict::RowRecord { row: 2, byte: 48 });
     assert_eq!(books.table_count(word.steps()), Err(Error::Damaged));
     assert_eq!(books.journal_count(&word), Ok(2));
@@ -184,7 +184,7 @@ fn damage_is_found_where_it_is() {
     assert_eq!(books.list(1, 1).err(), Some(Error::Damaged));
 
     books = sound.clone();
-    books.journals_mut()[256 * 3] = 1;
+    books.journal_bytes_mut()[256 * 3] = 1;
     assert_eq!(books.check(), Verdict::JournalRecord { record: 3 });
     assert_eq!(books.table_count(word.steps()), Ok(2));
     assert_eq!(books.journal_count(&word), Err(Error::Damaged));
@@ -195,7 +195,9 @@ fn damage_is_found_where_it_is() {
     let many: Vec<Vec<u8>> = (0..16)
         .map(|n| (0..50).map(|i| (i * (n + 2) % 7) as u8).collect())
         .collect();
-    books.journals_mut().copy_from_slice(&journal_book(&many));
+    books
+        .journal_bytes_mut()
+        .copy_from_slice(&journal_book(&many));
     assert_eq!(books.check(), Verdict::TooManyStates);
     assert_eq!(books.open_journals(), Ok(16));
     assert_eq!(books.live_rows(), Err(Error::Damaged));

@@ -535,7 +535,7 @@ pub fn list(
         written: 0,
         more: false,
     };
-    let out_fits = out.len().is_multiple_of(WORD_RECORD) && (16..=65_536).contains(&out.len());
+    let out_fits = out.len() % WORD_RECORD == 0 && (16..=65_536).contains(&out.len());
     if wrong_sizes(journals, rows) || record.len() != WORD_RECORD || !out_fits {
         return refused(1);
     }

@@ -1,8 +1,8 @@
-//! The books, and the calls on them.
+//! The books, in memory of their own or of the caller.
 
-use crate::error::done;
-use crate::{raw, Error, Row, Step, Word, Words, LARGEST_PAGE, ROW_RECORD};
+use crate::Error;
 use std::fmt;
+use std::ops::{Deref, DerefMut};
 
 /// The bytes of a journal book: 16 records of 256.
 pub const JOURNAL_BOOK: usize = 4096;
@@ -10,253 +10,180 @@ pub const JOURNAL_BOOK: usize = 4096;
 /// The bytes of a row book: 1,000 records of 64.
 pub const ROW_BOOK: usize = 64_000;
 
-/// A journal book and a row book.
+/// A journal book and a row book, and the calls on them.
 ///
-/// Books that start with [`Books::new`] and are changed by [`clear`](Books::clear),
-/// [`open`](Books::open) and [`append`](Books::append) only are always sound. Bytes that come from
-/// elsewhere may be damaged. Every call answers for these too: with [`Error::Damaged`] where it
-/// needs sound books.
-#[derive(Clone, PartialEq, Eq)]
-pub struct Books {
-    journals: Box<[u8; JOURNAL_BOOK]>,
-    rows: Box<[u8; ROW_BOOK]>,
+/// `J` and `R` say whose memory they stand in. There are three kinds: [`Books`] have memory of their
+/// own, [`BooksRef`] and [`BooksMut`] borrow the caller's, to read or to write it too. Their calls
+/// are the same, but that [`BooksRef`] has only those that read.
+///
+/// Books that were cleared and are changed by [`clear`](Books::clear), [`open`](Books::open) and
+/// [`append`](Books::append) only are always sound. Bytes that come from elsewhere may be damaged.
+/// Every call answers for these too: with [`Error::Damaged`] where it needs sound books.
+#[derive(Clone, Copy)]
+pub struct BooksIn<J, R> {
+    pub(crate) journals: J,
+    pub(crate) rows: R,
 }
 
-/// What the check says of the books.
-#[derive(Clone, Copy, Debug, PartialEq, Eq, Hash)]
-pub enum Verdict {
-    /// The journal book has its form, and the row book is its picture.
-    Sound,
-    /// A journal record lacks its form, or is open though the one before it isn't.
-    JournalRecord {
-        /// Its number, 0 to 15: no record before it is wrong.
-        record: usize,
-    },
-    /// A byte of a row isn't what the journals give, and none before it is wrong.
-    RowRecord {
-        /// The row's number, 0 to 999.
-        row: usize,
-        /// The byte in it, 0 to 63.
-        byte: usize,
-    },
-    /// The journals have more than 1,000 live states, so no row book is their picture.
-    TooManyStates,
-}
+/// Books in memory of their own, on the heap.
+pub type Books = BooksIn<Box<[u8; JOURNAL_BOOK]>, Box<[u8; ROW_BOOK]>>;
 
-impl fmt::Display for Verdict {
-    fn fmt(&self, f: &mut fmt::Formatter<'_>) -> fmt::Result {
-        match self {
-            Verdict::Sound => write!(f, "the books are sound"),
-            Verdict::JournalRecord { record } => {
-                write!(f, "the journal book is wrong at record {record}")
-            }
-            Verdict::RowRecord { row, byte } => {
-                write!(f, "the row book is wrong at row {row}, byte {byte}")
-            }
-            Verdict::TooManyStates => {
-                write!(f, "the journals have more than 1,000 live states")
-            }
-        }
-    }
-}
+/// Books in memory that the caller owns, to read: bytes from a file, or a map of one.
+///
+/// ```
+/// use selquorin::{BooksRef, Error, JOURNAL_BOOK, ROW_BOOK};
+///
+/// # fn main() -> Result<(), Error> {
+/// // A file that holds the journal book, then the row book. These are cleared ones.
+/// let file = vec![0; JOURNAL_BOOK + ROW_BOOK];
+/// let (journals, rows) = file.split_at(JOURNAL_BOOK);
+/// let books = BooksRef::from_bytes(journals, rows)?;
+/// assert_eq!(books.open_journals()?, 0);
+/// # Ok(())
+/// # }
+/// ```
+pub type BooksRef<'a> = BooksIn<&'a [u8; JOURNAL_BOOK], &'a [u8; ROW_BOOK]>;
+
+/// Books in memory that the caller owns, to read and to write.
+///
+/// ```
+/// use selquorin::{BooksMut, Error, Step, JOURNAL_BOOK, ROW_BOOK};
+///
+/// # fn main() -> Result<(), Error> {
+/// let mut file = vec![0; JOURNAL_BOOK + ROW_BOOK];
+/// let (journals, rows) = file.split_at_mut(JOURNAL_BOOK);
+/// let mut books = BooksMut::from_bytes(journals, rows)?;
+/// books.open()?;
+/// books.append(Step::new(7)?)?;
+/// // What was written stands in the caller's bytes: a journal is open, has one step, and that is 7.
+/// assert_eq!(file[..3], [1, 1, 7]);
+/// # Ok(())
+/// # }
+/// ```
+pub type BooksMut<'a> = BooksIn<&'a mut [u8; JOURNAL_BOOK], &'a mut [u8; ROW_BOOK]>;
 
 impl Books {
     /// Cleared books: they are sound, and have no journal.
     pub fn new() -> Books {
-        Books {
-            journals: zeros(),
-            rows: zeros(),
-        }
+        let zeros = |size| vec![0; size].into_boxed_slice();
+        BooksIn::of(zeros(JOURNAL_BOOK), zeros(ROW_BOOK)).expect("the books have their sizes")
     }
 
-    /// Books of given bytes, whatever these hold; [`Error::WrongSize`] if a book isn't as long as
-    /// it has to be. [`check`](Books::check) says whether they are sound.
+    /// Books that are a copy of given bytes, whatever these hold. [`check`](Books::check) says
+    /// whether they are sound.
+    ///
+    /// # Errors
+    ///
+    /// [`WrongSize`](Error::WrongSize), if there are not 4,096 bytes and 64,000.
     pub fn from_bytes(journals: &[u8], rows: &[u8]) -> Result<Books, Error> {
-        if journals.len() != JOURNAL_BOOK || rows.len() != ROW_BOOK {
-            return Err(Error::WrongSize);
-        }
-        let mut books = Books::new();
-        books.journals.copy_from_slice(journals);
-        books.rows.copy_from_slice(rows);
-        Ok(books)
+        BooksRef::from_bytes(journals, rows)?;
+        BooksIn::of(Box::<[u8]>::from(journals), Box::<[u8]>::from(rows))
     }
+}
 
+impl<'a> BooksRef<'a> {
+    /// Books that are given bytes themselves, whatever these hold.
+    ///
+    /// # Errors
+    ///
+    /// [`WrongSize`](Error::WrongSize), if there are not 4,096 bytes and 64,000.
+    pub fn from_bytes(journals: &'a [u8], rows: &'a [u8]) -> Result<BooksRef<'a>, Error> {
+        BooksIn::of(journals, rows)
+    }
+}
+
+impl<'a> BooksMut<'a> {
+    /// Books that are given bytes themselves, whatever these hold, to be written where they stand.
+    ///
+    /// # Errors
+    ///
+    /// [`WrongSize`](Error::WrongSize), if there are not 4,096 bytes and 64,000.
+    pub fn from_bytes(journals: &'a mut [u8], rows: &'a mut [u8]) -> Result<BooksMut<'a>, Error> {
+        BooksIn::of(journals, rows)
+    }
+}
+
+impl<J, R> BooksIn<J, R> {
+    /// Books of two slices that have their sizes.
+    fn of(journals: impl TryInto<J>, rows: impl TryInto<R>) -> Result<BooksIn<J, R>, Error> {
+        Ok(BooksIn {
+            journals: journals.try_into().map_err(|_| Error::WrongSize)?,
+            rows: rows.try_into().map_err(|_| Error::WrongSize)?,
+        })
+    }
+}
+
+/// The bytes, to read.
+impl<J, R> BooksIn<J, R>
+where
+    J: Deref<Target = [u8; JOURNAL_BOOK]>,
+    R: Deref<Target = [u8; ROW_BOOK]>,
+{
     /// The bytes of the journal book.
-    pub fn journals(&self) -> &[u8; JOURNAL_BOOK] {
+    pub fn journal_bytes(&self) -> &[u8; JOURNAL_BOOK] {
         &self.journals
     }
 
     /// The bytes of the row book.
-    pub fn rows(&self) -> &[u8; ROW_BOOK] {
+    pub fn row_bytes(&self) -> &[u8; ROW_BOOK] {
         &self.rows
     }
 
+    /// These books, borrowed to read: for a function that takes books of any kind.
+    ///
+    /// ```
+    /// use selquorin::{Books, BooksRef, Error};
+    ///
+    /// fn sites(books: BooksRef<'_>) -> Result<usize, Error> {
+    ///     books.open_journals()
+    /// }
+    ///
+    /// assert_eq!(sites(Books::new().view()), Ok(0));
+    /// ```
+    pub fn view(&self) -> BooksRef<'_> {
+        BooksIn {
+            journals: self.journal_bytes(),
+            rows: self.row_bytes(),
+        }
+    }
+}
+
+/// The bytes, to write.
+impl<J, R> BooksIn<J, R>
+where
+    J: DerefMut<Target = [u8; JOURNAL_BOOK]>,
+    R: DerefMut<Target = [u8; ROW_BOOK]>,
+{
     /// The bytes of the journal book, to write. What is written may damage the books.
-    pub fn journals_mut(&mut self) -> &mut [u8; JOURNAL_BOOK] {
+    pub fn journal_bytes_mut(&mut self) -> &mut [u8; JOURNAL_BOOK] {
         &mut self.journals
     }
 
     /// The bytes of the row book, to write. What is written may damage the books.
-    pub fn rows_mut(&mut self) -> &mut [u8; ROW_BOOK] {
+    pub fn row_bytes_mut(&mut self) -> &mut [u8; ROW_BOOK] {
         &mut self.rows
     }
 
-    /// Makes every byte of both books zero: there is no journal then. Works on damaged books too.
-    pub fn clear(&mut self) {
-        let number = raw::clear(&mut self.journals[..], &mut self.rows[..]);
-        done(number).expect("the books have their sizes");
-    }
-
-    /// Opens an empty journal behind the others.
-    ///
-    /// # Errors
-    ///
-    /// [`Damaged`](Error::Damaged), [`JournalsFull`](Error::JournalsFull).
-    pub fn open(&mut self) -> Result<(), Error> {
-        done(raw::open(&mut self.journals[..], &mut self.rows[..]))
-    }
-
-    /// Appends a step to the journal opened last.
-    ///
-    /// # Errors
-    ///
-    /// [`Damaged`](Error::Damaged), [`NoJournal`](Error::NoJournal),
-    /// [`JournalFull`](Error::JournalFull), [`RowsFull`](Error::RowsFull).
-    pub fn append(&mut self, step: Step) -> Result<(), Error> {
-        done(raw::append(
-            &mut self.journals[..],
-            &mut self.rows[..],
-            step.code(),
-        ))
-    }
-
-    /// In how many journals a word is, by the row book alone: one look at the table for each step.
-    /// The word may have any length.
-    ///
-    /// # Errors
-    ///
-    /// [`Damaged`](Error::Damaged), if the walk along the table meets a byte that can't be right.
-    /// It doesn't check the books as a whole.
-    pub fn table_count(&self, word: &[Step]) -> Result<u8, Error> {
-        let codes: Vec<u8> = word.iter().map(|step| step.code()).collect();
-        let answer = raw::table_count(&self.rows[..], &codes);
-        done(answer.number).map(|()| answer.count)
-    }
-
-    /// In how many journals a word is, from the journals alone. It reads the journal book only.
-    ///
-    /// # Errors
-    ///
-    /// [`Damaged`](Error::Damaged), if the journal book lacks its form.
-    pub fn journal_count(&self, word: &Word) -> Result<u8, Error> {
-        let answer = raw::journal_count(&self.journals[..], &word.record());
-        done(answer.number).map(|()| answer.count)
-    }
-
-    /// How many journals are open, 0 to 16. It reads the journal book only.
-    ///
-    /// # Errors
-    ///
-    /// [`Damaged`](Error::Damaged), if the journal book lacks its form.
-    pub fn open_journals(&self) -> Result<usize, Error> {
-        let answer = raw::open_journals(&self.journals[..]);
-        done(answer.number).map(|()| answer.journals)
-    }
-
-    /// How many rows are live, 0 to 1,000: one for each live state of the journals. They are the
-    /// first rows of the table.
+    /// These books, borrowed to read and to write.
     ///
     /// ```
-    /// # use selquorin::{Books, Error, Step};
-    /// # fn main() -> Result<(), Error> {
-    /// let mut books = Books::new();
-    /// assert_eq!(books.live_rows()?, 0);
-    /// books.open()?;
-    /// books.append(Step::new(7)?)?;
-    /// for number in 0..books.live_rows()? {
-    ///     let row = books.row(number)?;
-    ///     assert_eq!(row.place(0).map(usize::from), Some(number));
+    /// use selquorin::{Books, BooksMut, Error, Step};
+    ///
+    /// fn take(mut books: BooksMut<'_>, steps: &[Step]) -> Result<(), Error> {
+    ///     books.open()?;
+    ///     steps.iter().try_for_each(|&step| books.append(step))
     /// }
-    /// # Ok(())
-    /// # }
+    ///
+    /// let mut books = Books::new();
+    /// take(books.view_mut(), &[Step::new(3)?, Step::new(1)?])?;
+    /// assert_eq!(books.open_journals()?, 1);
+    /// # Ok::<(), Error>(())
     /// ```
-    ///
-    /// # Errors
-    ///
-    /// [`Damaged`](Error::Damaged), unless the books are sound.
-    pub fn live_rows(&self) -> Result<usize, Error> {
-        let answer = raw::live_rows(&self.journals[..], &self.rows[..]);
-        done(answer.number).map(|()| answer.rows)
-    }
-
-    /// Checks both books: whether they are sound, and if not, where the first fault is.
-    pub fn check(&self) -> Verdict {
-        let answer = raw::check(&self.journals[..], &self.rows[..]);
-        match (answer.number, answer.book) {
-            (0, _) => Verdict::Sound,
-            (2, 1) => Verdict::JournalRecord {
-                record: answer.record,
-            },
-            (2, 2) if answer.record == 1000 => Verdict::TooManyStates,
-            (2, 2) => Verdict::RowRecord {
-                row: answer.record,
-                byte: answer.byte,
-            },
-            other => unreachable!("the check of whole books answers no {other:?}"),
+    pub fn view_mut(&mut self) -> BooksMut<'_> {
+        BooksIn {
+            journals: &mut self.journals,
+            rows: &mut self.rows,
         }
-    }
-
-    /// A row of the table, 0 to 999: a part of the row book itself, whatever it holds.
-    ///
-    /// # Errors
-    ///
-    /// [`WrongRow`](Error::WrongRow).
-    pub fn row(&self, row: usize) -> Result<Row<'_>, Error> {
-        done(raw::row_record_number(&self.rows[..], row))?;
-        let record = &self.rows[ROW_RECORD * row..ROW_RECORD * (row + 1)];
-        Ok(Row::new(record.try_into().expect("a row has 64 bytes")))
-    }
-
-    /// The words of up to `length` steps that at least `quorum` journals hold, in dictionary order.
-    ///
-    /// # Errors
-    ///
-    /// [`Damaged`](Error::Damaged), [`WrongLength`](Error::WrongLength),
-    /// [`WrongQuorum`](Error::WrongQuorum).
-    pub fn list(&self, quorum: usize, length: usize) -> Result<Words<'_>, Error> {
-        self.list_paged(quorum, length, None, LARGEST_PAGE)
-    }
-
-    /// The same list from behind a word on, which need not be in the list itself.
-    ///
-    /// # Errors
-    ///
-    /// Those of [`list`](Books::list), and [`WrongWord`](Error::WrongWord) if the word has more
-    /// than `length` steps.
-    pub fn list_after(
-        &self,
-        quorum: usize,
-        length: usize,
-        word: &Word,
-    ) -> Result<Words<'_>, Error> {
-        self.list_paged(quorum, length, Some(word), LARGEST_PAGE)
-    }
-
-    /// The same list, fetched by `page` words at a time, 1 to [`LARGEST_PAGE`]. Each page is one
-    /// call, which checks the books first, so that small pages take longer.
-    ///
-    /// # Errors
-    ///
-    /// Those of [`list_after`](Books::list_after), and [`WrongSize`](Error::WrongSize) for a page
-    /// of no word or of more than [`LARGEST_PAGE`].
-    pub fn list_paged(
-        &self,
-        quorum: usize,
-        length: usize,
-        after: Option<&Word>,
-        page: usize,
-    ) -> Result<Words<'_>, Error> {
-        Words::new(self, quorum, length, after, page)
     }
 }
 
@@ -266,7 +193,32 @@ impl Default for Books {
     }
 }
 
-impl fmt::Debug for Books {
+/// Books are equal when both books have the same bytes, whosever memory they stand in.
+impl<J, R, K, S> PartialEq<BooksIn<K, S>> for BooksIn<J, R>
+where
+    J: Deref<Target = [u8; JOURNAL_BOOK]>,
+    R: Deref<Target = [u8; ROW_BOOK]>,
+    K: Deref<Target = [u8; JOURNAL_BOOK]>,
+    S: Deref<Target = [u8; ROW_BOOK]>,
+{
+    fn eq(&self, other: &BooksIn<K, S>) -> bool {
+        *self.journals == *other.journals && *self.rows == *other.rows
+    }
+}
+
+impl<J, R> Eq for BooksIn<J, R>
+where
+    J: Deref<Target = [u8; JOURNAL_BOOK]>,
+    R: Deref<Target = [u8; ROW_BOOK]>,
+{
+}
+
+/// What the check says, in the place of 68,096 bytes.
+impl<J, R> fmt::Debug for BooksIn<J, R>
+where
+    J: Deref<Target = [u8; JOURNAL_BOOK]>,
+    R: Deref<Target = [u8; ROW_BOOK]>,
+{
     fn fmt(&self, f: &mut fmt::Formatter<'_>) -> fmt::Result {
         f.debug_struct("Books")
             .field("check", &self.check())
@@ -274,10 +226,52 @@ impl fmt::Debug for Books {
     }
 }
 
-/// A boxed array of zeros, made on the heap.
-fn zeros<const N: usize>() -> Box<[u8; N]> {
-    match vec![0; N].into_boxed_slice().try_into() {
-        Ok(array) => array,
-        Err(_) => unreachable!("it has that length"),
+#[cfg(test)]
+mod tests {
+    use super::*;
+
+    #[test]
+    fn books_have_their_sizes() {
+        let bytes = vec![0; ROW_BOOK + 1];
+        for (journals, rows, fits) in [
+            (JOURNAL_BOOK, ROW_BOOK, true),
+            (JOURNAL_BOOK - 1, ROW_BOOK, false),
+            (JOURNAL_BOOK + 1, ROW_BOOK, false),
+            (JOURNAL_BOOK, ROW_BOOK - 1, false),
+            (JOURNAL_BOOK, ROW_BOOK + 1, false),
+            (0, 0, false),
+        ] {
+            let (j, r) = (&bytes[..journals], &bytes[..rows]);
+            let wanted = if fits { None } else { Some(Error::WrongSize) };
+            assert_eq!(Books::from_bytes(j, r).err(), wanted);
+            assert_eq!(BooksRef::from_bytes(j, r).err(), wanted);
+            let (j, r) = (&mut j.to_vec(), &mut r.to_vec());
+            assert_eq!(BooksMut::from_bytes(j, r).err(), wanted);
+        }
+    }
+
+    #[test]
+    fn borrowed_books_are_the_callers_bytes() {
+        let (mut journals, mut rows) = (vec![0; JOURNAL_BOOK], vec![0; ROW_BOOK]);
+        let mut books = BooksMut::from_bytes(&mut journals, &mut rows).unwrap();
+        books.open().unwrap();
+        let owned = Books::from_bytes(books.journal_bytes(), books.row_bytes()).unwrap();
+        let read = BooksRef::from_bytes(&journals, &rows).unwrap();
+        assert_eq!(read.journal_bytes().as_ptr(), journals.as_ptr());
+        assert_eq!(read.row_bytes().as_ptr(), rows.as_ptr());
+        assert_eq!(read, owned);
+        assert_ne!(owned, Books::new());
+    }
+
+    #[test]
+    fn books_are_shown_by_what_the_check_says() {
+        let mut books = Books::new();
+        let sound = "Books { check: Sound, .. }";
+        assert_eq!(format!("{books:?}"), sound);
+        assert_eq!(format!("{:?}", books.view()), sound);
+        assert_eq!(format!("{:?}", books.view_mut()), sound);
+        books.row_bytes_mut()[65] = 1;
+        let wrong = "Books { check: RowRecord { row: 1, byte: 1 }, .. }";
+        assert_eq!(format!("{books:?}"), wrong);
     }
 }

@@ -3,7 +3,10 @@
 use std::fmt;
 
 /// Why a call was refused. A refused call has changed nothing.
+///
+/// Further numbers may come, so that a `match` needs an arm for them.
 #[derive(Clone, Copy, Debug, PartialEq, Eq, Hash)]
+#[non_exhaustive]
 pub enum Error {
     /// 1: wrong size of a book, the list's output or a word record.
     WrongSize,
@@ -34,8 +37,8 @@ pub enum Error {
 }
 
 impl Error {
-    /// Every error, in the order of the numbers 1 to 13.
-    pub const ALL: [Error; 13] = [
+    /// Every error, in the order of the numbers from 1 on.
+    pub const ALL: &'static [Error] = &[
         Error::WrongSize,
         Error::Damaged,
         Error::WrongStep,
@@ -51,12 +54,12 @@ impl Error {
         Error::WrongRow,
     ];
 
-    /// The number that document 01 gives it, 1 to 13.
+    /// Its number, from 1 on: the same as in C, and as the loading program prints.
     pub fn number(self) -> u8 {
         self as u8 + 1
     }
 
-    /// The error of a number; none for 0, which says that a call is done, and for those above 13.
+    /// The error of a number; none for 0, which says that a call is done, and for those above all.
     pub fn from_number(number: u8) -> Option<Error> {
         let at = usize::from(number).checked_sub(1)?;
         Error::ALL.get(at).copied()
@@ -102,7 +105,7 @@ mod tests {
 
     #[test]
     fn numbers_and_errors_belong_together() {
-        for (error, number) in Error::ALL.into_iter().zip(1..) {
+        for (&error, number) in Error::ALL.iter().zip(1..) {
             assert_eq!(error.number(), number);
             assert_eq!(Error::from_number(number), Some(error));
             assert_eq!(done(number), Err(error));

@@ -8,7 +8,9 @@
 //!
 //! The calls themselves are proved and come from the static library `libselquorin.a`. This crate
 //! only lends it memory: [`Books`], [`Word`]s and [`Step`]s have right sizes and codes once they are
-//! made, and the library's numbers become [`Error`]s and a [`Verdict`]. The module [`raw`] has the
+//! made, and the library's numbers become [`Error`]s and a [`Verdict`]. [`Books`] have memory of
+//! their own. [`BooksRef`] and [`BooksMut`] are books in the caller's memory, such as a map of a
+//! file. The page of [`BooksIn`] has the calls of all three. The module [`raw`] has the library's
 //! calls as they are, for bytes of any length and content.
 //!
 //! The calls keep their scratch on the stack. [`Books::append`] takes the most of it: about 140 KB,
@@ -41,10 +43,14 @@
 //! let shared: Vec<String> = books.list(2, 3)?.map(|word| word.to_string()).collect();
 //! assert_eq!(shared, ["", "1", "1 1", "1 2", "2"]);
 //!
+//! // The words that some journal holds, each with its count.
+//! for (word, count) in books.list(1, 3)?.with_counts() {
+//!     println!("{word}: in {count} journals");
+//! }
+//!
 //! // The third row of the table: the first journal at place 2, the second at place 3.
 //! let row = books.row(2)?;
-//! assert_eq!(row.place(0), Some(2));
-//! assert_eq!(row.place(1), Some(3));
+//! assert_eq!(row.places()[..2], [Some(2), Some(3)]);
 //! assert_eq!(row.count(), 2);
 //!
 //! // A refusal changes nothing, and says why.
@@ -53,15 +59,21 @@
 //! # }
 //! ```
 
+#![deny(unsafe_code)]
+
 mod books;
+mod calls;
 mod error;
 mod list;
+#[allow(unsafe_code)]
 pub mod raw;
 mod row;
+mod verdict;
 mod word;
 
-pub use books::{Books, Verdict, JOURNAL_BOOK, ROW_BOOK};
+pub use books::{Books, BooksIn, BooksMut, BooksRef, JOURNAL_BOOK, ROW_BOOK};
 pub use error::Error;
-pub use list::{Words, LARGEST_PAGE};
+pub use list::{Words, WordsWithCounts, LARGEST_PAGE};
 pub use row::{Row, ROW_RECORD};
+pub use verdict::Verdict;
 pub use word::{Step, Word, LONGEST_WORD, WORD_RECORD};

@@ -1,19 +1,20 @@
 //! The list, fetched page by page.
 
 use crate::error::done;
-use crate::{raw, Books, Error, Word, WORD_RECORD};
+use crate::{raw, BooksRef, Error, Word, WORD_RECORD};
+use std::fmt;
 use std::iter::FusedIterator;
 
 /// The most words that one call of the list hands out: 4,096, in 65,536 bytes.
 pub const LARGEST_PAGE: usize = 4096;
 
-/// The listed words, in dictionary order: made by [`Books::list`] and its kin.
+/// The listed words, in dictionary order: made by [`list`](crate::Books::list) and its kin.
 ///
 /// It holds one page of them. When that is used up it fetches the next one, after the page's last
 /// word. The books are borrowed as long as it lives, so that what it lists can't change under it.
-#[derive(Clone, Debug)]
+#[derive(Clone)]
 pub struct Words<'a> {
-    books: &'a Books,
+    books: BooksRef<'a>,
     quorum: usize,
     length: usize,
     page: Vec<u8>,
@@ -26,7 +27,7 @@ pub struct Words<'a> {
 
 impl<'a> Words<'a> {
     pub(crate) fn new(
-        books: &'a Books,
+        books: BooksRef<'a>,
         quorum: usize,
         length: usize,
         after: Option<&Word>,
@@ -47,11 +48,35 @@ impl<'a> Words<'a> {
         Ok(words)
     }
 
+    /// The words that are left, each with its count: in how many journals it is.
+    ///
+    /// ```
+    /// # use selquorin::{Books, Error, Step};
+    /// # fn main() -> Result<(), Error> {
+    /// let mut books = Books::new();
+    /// for journal in [[1, 2, 1], [1, 1, 2]] {
+    ///     books.open()?;
+    ///     for code in journal {
+    ///         books.append(Step::new(code)?)?;
+    ///     }
+    /// }
+    /// // The words that one journal holds and the other doesn't.
+    /// let words = books.list(1, 3)?.with_counts();
+    /// let alone = words.filter(|(_, count)| *count == 1);
+    /// let alone: Vec<String> = alone.map(|(word, _)| word.to_string()).collect();
+    /// assert_eq!(alone, ["1 1 2", "1 2 1", "2 1"]);
+    /// # Ok(())
+    /// # }
+    /// ```
+    pub fn with_counts(self) -> WordsWithCounts<'a> {
+        WordsWithCounts { words: self }
+    }
+
     /// Fetches a page: from the start, or after a word.
     fn fetch(&mut self, after: Option<&Word>) -> Result<(), Error> {
         let answer = raw::list(
-            &self.books.journals()[..],
-            &self.books.rows()[..],
+            self.books.journal_bytes(),
+            self.books.row_bytes(),
             self.quorum,
             self.length,
             u8::from(after.is_some()),
@@ -95,3 +120,37 @@ impl Iterator for Words<'_> {
 }
 
 impl FusedIterator for Words<'_> {}
+
+/// The ask, and how many words of the page are left, in the place of the page.
+impl fmt::Debug for Words<'_> {
+    fn fmt(&self, f: &mut fmt::Formatter<'_>) -> fmt::Result {
+        f.debug_struct("Words")
+            .field("quorum", &self.quorum)
+            .field("length", &self.length)
+            .field("fetched", &(self.written - self.taken))
+            .field("more", &self.more)
+            .finish_non_exhaustive()
+    }
+}
+
+/// The listed words, each with its count: made by [`Words::with_counts`].
+#[derive(Clone, Debug)]
+pub struct WordsWithCounts<'a> {
+    words: Words<'a>,
+}
+
+impl Iterator for WordsWithCounts<'_> {
+    type Item = (Word, u8);
+
+    fn next(&mut self) -> Option<(Word, u8)> {
+        let word = self.words.next()?;
+        let count = self.words.books.table_count(word.steps());
+        Some((word, count.expect("the books that are listed are sound")))
+    }
+
+    fn size_hint(&self) -> (usize, Option<usize>) {
+        self.words.size_hint()
+    }
+}
+
+impl FusedIterator for WordsWithCounts<'_> {}

@@ -4,6 +4,9 @@
 //! with a number of document 01 (0: done), and a refusal writes nothing. These functions only turn
 //! slices into pointers with lengths, and packed answers into fields.
 
+use crate::Step;
+use std::slice;
+
 /// What a count answers.
 #[derive(Clone, Copy, Debug, PartialEq, Eq)]
 pub struct Counted {
@@ -75,6 +78,12 @@ mod library {
             rows: *mut u8,
             rows_length: usize,
             step: u8,
+        ) -> u8;
+        pub fn selquorin_rebuild(
+            journals: *const u8,
+            journals_length: usize,
+            rows: *mut u8,
+            rows_length: usize,
         ) -> u8;
         pub fn selquorin_table_count(
             rows: *const u8,
@@ -154,6 +163,19 @@ pub fn append(journals: &mut [u8], rows: &mut [u8], step: u8) -> u8 {
             rows.as_mut_ptr(),
             rows.len(),
             step,
+        )
+    }
+}
+
+/// Draws the row book anew from the journal book. Numbers: 1, 2, 6.
+pub fn rebuild(journals: &[u8], rows: &mut [u8]) -> u8 {
+    // SAFETY: both are lent whole, the row book for writing, and they don't overlap.
+    unsafe {
+        library::selquorin_rebuild(
+            journals.as_ptr(),
+            journals.len(),
+            rows.as_mut_ptr(),
+            rows.len(),
         )
     }
 }
@@ -265,4 +287,37 @@ pub fn list(
 pub fn row_record_number(rows: &[u8], row: usize) -> u8 {
     // SAFETY: the book is lent whole, and only read.
     unsafe { library::selquorin_row_record_number(rows.as_ptr(), rows.len(), row) }
+}
+
+/// The codes of some steps, where they stand.
+pub(crate) fn codes(steps: &[Step]) -> &[u8] {
+    // SAFETY: a step is laid out as its code is, and both are only read as long as they are lent.
+    unsafe { slice::from_raw_parts(steps.as_ptr().cast(), steps.len()) }
+}
+
+/// The steps of some codes, where they stand; none if a code is above 15.
+pub(crate) fn steps(codes: &[u8]) -> Option<&[Step]> {
+    if codes.iter().any(|&code| Step::new(code).is_err()) {
+        return None;
+    }
+    // SAFETY: a step is laid out as its code is, each code is that of a step, and both are only
+    // read as long as they are lent.
+    Some(unsafe { slice::from_raw_parts(codes.as_ptr().cast(), codes.len()) })
+}
+
+#[cfg(test)]
+mod tests {
+    use super::*;
+
+    #[test]
+    fn steps_and_codes_are_the_same_bytes() {
+        let all: Vec<u8> = (0..=16).collect();
+        for n in 0..=16 {
+            let row = steps(&all[..n]).unwrap();
+            assert!(row.iter().map(|step| step.code()).eq(0..n as u8));
+            assert_eq!(codes(row), &all[..n]);
+        }
+        assert_eq!(steps(&all), None);
+        assert_eq!(steps(&[0, 255, 0]), None);
+    }
 }
