@@ -35,6 +35,6 @@ pub fn load(source: &Source, file: &Path) -> Result<(), Failure> {
 }
 
 fn keep(books: &Books, file: &Path) -> Result<(), Failure> {
-    let bytes = [&books.journals()[..], &books.rows()[..]].concat();
+    let bytes = [&books.journal_bytes()[..], &books.row_bytes()[..]].concat();
     replace(file, &bytes).map_err(Failure::of(file.display()))
 }

@@ -4,7 +4,6 @@ use crate::ask::Ask;
 use crate::books_from::BooksFrom;
 use crate::failure::{Failure, Part};
 use crate::output::{self, Output};
-use selquorin::{Books, Error, Word};
 
 /// Prints the list, or the one line of a refusal.
 pub fn list(from: &BooksFrom, ask: &Ask) -> Result<(), Failure> {
@@ -29,18 +28,11 @@ fn print_list(from: &BooksFrom, ask: &Ask) -> Result<(), Failure> {
     let mut output = Output::open()?;
     output.print(format_args!("texts {k} rows {rows}\n"))?;
     let mut printed: u64 = 0;
-    for word in words {
-        let line = word_line(&books, &word).map_err(|error| from.refused(error))?;
-        output.print(line)?;
+    for (word, count) in words.with_counts() {
+        let blank = if word.is_empty() { "" } else { " " };
+        output.print(format_args!("{} {count}{blank}{word}\n", word.len()))?;
         printed += 1;
     }
     output.print(format_args!("end {printed}\n"))?;
     output.close()
-}
-
-/// A word's length, its count and its steps.
-fn word_line(books: &Books, word: &Word) -> Result<String, Error> {
-    let count = books.table_count(word.steps())?;
-    let blank = if word.is_empty() { "" } else { " " };
-    Ok(format!("{} {count}{blank}{word}\n", word.len()))
 }
