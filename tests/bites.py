@@ -22,6 +22,8 @@ IS_3 = "    if step >= STEPS:\n        return 3\n"
 IS_4 = "    if not now:\n        return 4\n"
 IS_5 = "    if len(now[-1]) == LONGEST_JOURNAL:\n        return 5\n"
 IS_6 = "    after = now[:-1] + (now[-1] + bytes([step]),)\n    if picture(after) is None:\n        return 6\n"
+IS_1 = "    if not sized(journals, rows):\n        return 1\n"
+REBUILD_2 = "    if first_wrong(journals) != JOURNALS:\n        return 2\n"
 RECORD_10 = "    word = steps_of(record, LONGEST_WORD)\n    if word is None:\n        return 10, 0\n"
 FORM_2 = "    if first_wrong(journals) != JOURNALS:\n        return 2, 0\n"
 
@@ -56,6 +58,14 @@ WRONG_BOOKS = [
     ("append: 6 before 5", IS_5 + IS_6, IS_6 + IS_5),
     ("append writes before it refuses with 6", "    if picture(after) is None:\n", "    journals[:] = journal_book(after)\n    if picture(after) is None:\n"),
     ("append writes nothing", "    write_books(journals, rows, after)\n", ""),
+    ("rebuild: wants sound books", REBUILD_2 + "    drawn", SOUND + "    drawn"),
+    ("rebuild: 2 before 1", IS_1 + REBUILD_2, "    if len(journals) >= JOURNAL_BOOK and first_wrong(journals) != JOURNALS:\n        return 2\n" + IS_1),
+    ("rebuild: journals without their form are drawn", REBUILD_2, ""),
+    ("rebuild: 2 for too many states", "    if drawn is None:\n        return 6\n", "    if drawn is None:\n        return 2\n"),
+    ("rebuild clears the rows before it refuses with 6", "    if drawn is None:\n", "    rows[:] = bytes(ROW_BOOK)\n    if drawn is None:\n"),
+    ("rebuild draws nothing", "    rows[:] = drawn\n", ""),
+    ("rebuild leaves a row book whose first row is right", "    rows[:] = drawn\n", "    rows[:] = rows if rows[:ROW_RECORD] == drawn[:ROW_RECORD] else drawn\n"),
+    ("rebuild leaves what stands behind the live rows", "    rows[:] = drawn\n", "    end = ROW_RECORD * len(live_states(journals_of(journals)))\n    rows[:end] = drawn[:end]\n"),
     ("table count: steps are tested on the way", "if any(step >= STEPS for step in word):", "if any(step >= STEPS for step in word[:1]):"),
     ("table count: row 0 is not looked at", "    if counted > 16:\n        return 2, 0\n    if counted == 0:\n        return 0, 0\n", ""),
     ("table count: an arc to its own row", "if arc <= present or", "if arc < present or"),

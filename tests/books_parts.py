@@ -4,10 +4,12 @@ import struct
 import model
 from trial import runs, word_record
 
-# Every call but clear, and then the digests, which show what was written.
+# Every call but clear and rebuild, and then the digests, which show what was written.
 EVERY_CALL = ["check", "journals", "rows", "open", "append 1", "append 16", "table", "table 1", "table 1 2", "table 2 1 1",
               "table 3 3 3", "table 1 16", "count" + word_record([1, 2]), "count" + word_record([1, 16]), "row 0", "row 5",
               "row 1000", "digest"]
+# Rebuild, and what then stands there.
+REBUILD = ["rebuild", "digest", "check", "rows"]
 DAMAGED = (1, 2, 1, 3), (1, 1, 2), (3, 1, 2)
 
 
@@ -23,10 +25,10 @@ def words(all_steps):
 
 def guards(s):
     """Every call on books of zeros, then on books filled with bytes that are no books; clear makes them zero."""
-    s("digest", *EVERY_CALL)
+    s("digest", *EVERY_CALL, *REBUILD)
     s("write 1 0" + runs(s.chance.randbytes(model.JOURNAL_BOOK)))
     s("write 2 0" + runs(s.chance.randbytes(1280)), "write 2 62720" + runs(s.chance.randbytes(1280)))
-    s(*EVERY_CALL, "clear", "digest")
+    s(*EVERY_CALL, *REBUILD, "clear", "digest")
 
 
 def worked(s):
@@ -114,9 +116,20 @@ def damage(s):
     s("lend 1 4096", "check", "open", "digest")
 
 
+def rebuilt(s):
+    """Damaged books of every kind drawn anew: any row book, beside each journal book that has its form, whatever journals it
+    holds. The row book of the journals as they were comes back by rebuilding too. Last a row book of no zeros at all."""
+    s.books(DAMAGED)
+    s("digest")
+    for writes in [*journal_damage(), *row_damage(s.chance, s.trial.rooms[1], s.last_row())]:
+        s.with_written(writes, REBUILD)
+        s("rebuild")
+    s("digest", *[f"write 2 {8000 * n} 8000*{n + 1}" for n in range(8)], *REBUILD, "clear", *REBUILD)
+
+
 def wrong_sizes(s):
     """Each book too short and too long, through every call, and that refusal before all others. Clear leaves every byte."""
-    lines = [*EVERY_CALL, "clear", "table 255", "count 16*255", "digest"]
+    lines = [*EVERY_CALL, "clear", "rebuild", "table 255", "count 16*255", "digest"]
     s.books(DAMAGED)
     s("digest")
     for book, lengths in (1, (0, 1, 256, 4095, 4097, 4352)), (2, (0, 1, 63, 64, 63936, 63999, 64001, 64064)):
@@ -183,7 +196,7 @@ def chain(s):
 def far_too_many_states(s):
     """Sixteen journals of 200 steps, written as bytes: of right form, with more states than anyone could visit."""
     journals = [bytes(s.chance.choices(range(16), k=200)) for _ in range(16)]
-    s("write 1 0" + runs(model.journal_book(journals)), *EVERY_CALL)
+    s("write 1 0" + runs(model.journal_book(journals)), *EVERY_CALL, *REBUILD)
     s(*words(s.random_word(range(16), 15) for _ in range(20)), *word(journals[3][:15]), "clear", "digest")
 
 
@@ -191,7 +204,7 @@ def thousand_rows(s):
     """Books of just 1,000 rows, on the way there and beyond: each further step is refused with 6 and leaves every byte. With
     1,001 states by the journal book's bytes the check says 2 2 1000 0, whatever the row book holds. A sixth journal can be
     opened, and takes each step that makes as many states as it ends, but none that makes one more; when it is full it is
-    refused with 5 and not with 6."""
+    refused with 5 and not with 6. Rebuild draws the 1,000 rows anew, and refuses one more."""
     s.books([bytes([step]) * 200 for step in range(4)])
     s("append 3", "open")
     for n in range(199):
@@ -202,8 +215,9 @@ def thousand_rows(s):
         s(*words([[step], [step] * 15]), *[f"table {length}*{step}" for length in (16, 198, 199, 200, 201)])
     s(*word([0, 1]), "table 1000*0")
     more = [(1, 4 * 256 + 1, [200]), (1, 4 * 256 + 2 + 199, [4])]
-    s.with_written(more, EVERY_CALL)
-    s.with_written([*more, (2, 0, [9]), (2, 999 * 64 + 50, [9])], EVERY_CALL)
+    s.with_written(more, [*EVERY_CALL, *REBUILD])
+    s.with_written([*more, (2, 0, [9]), (2, 999 * 64 + 50, [9])], [*EVERY_CALL, *REBUILD])
+    s.with_written([(2, 0, [9]), (2, 999 * 64 + 48, [9])], REBUILD)
     s("check", "open", "digest", "append 5", "digest")
     for n in range(200):
         s("append 0", *["append 1", "digest", "rows"] * (n % 40 == 0))
@@ -229,7 +243,7 @@ def random_journals(s):
 
 
 def random_damage(s):
-    """Random journals, and random bytes written into either book."""
+    """Random journals, and random bytes written into either book; where that leaves a journal book, it is drawn anew."""
     for _ in range(40):
         s.books([s.random_word(range(4), 6) for _ in range(s.chance.randrange(1, 5))])
         rooms = 256 * 5, 64 * (s.last_row() + 2)
@@ -237,9 +251,10 @@ def random_damage(s):
             books = s.chance.choices([1, 2], k=s.chance.randrange(1, 4))
             values = 0, 1, 2, 3, 255, s.chance.randrange(256)
             lines = ["check", "journals", "rows", "open", f"append {s.chance.randrange(18)}",
-                     *words(s.random_word(range(4), 5) for _ in range(2)), f"row {s.chance.randrange(20)}", "digest"]
+                     *words(s.random_word(range(4), 5) for _ in range(2)), f"row {s.chance.randrange(20)}", "digest", *REBUILD]
             s.with_written([(book, s.chance.randrange(rooms[book - 1]), [s.chance.choice(values)]) for book in books], lines)
+            s("rebuild")
 
 
-PARTS = guards, worked, lengths_and_steps, damage, wrong_sizes, word_records, row_numbers, garbage, chain, far_too_many_states, \
+PARTS = guards, worked, lengths_and_steps, damage, rebuilt, wrong_sizes, word_records, row_numbers, garbage, chain, far_too_many_states, \
     random_damage, thousand_rows, random_journals

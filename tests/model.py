@@ -1,5 +1,6 @@
 #!/usr/bin/env python3
-"""The books and the list of document 01 a second time: plain Python, written from the document alone.
+"""The books and the list of document 01 a second time: plain Python, written from the document alone. Rebuild isn't in the
+document, and is written from its own definition: 1, 2 by the journal book's form, 6, else the row book becomes the picture.
 
 Books are bytearrays (or parts of them, as memoryviews) and are changed where they lie. Each call answers for every input,
 refused ones included. `python3 tests/model.py --self` holds it to the plain definition of "in" on small random journals; the
@@ -196,6 +197,19 @@ def append(journals, rows, step):
     return 0
 
 
+def rebuild(journals, rows):
+    """Draws the row book anew from the journal book alone."""
+    if not sized(journals, rows):
+        return 1
+    if first_wrong(journals) != JOURNALS:
+        return 2
+    drawn = picture(journals_of(journals))
+    if drawn is None:
+        return 6
+    rows[:] = drawn
+    return 0
+
+
 def open_journals(journals):
     """A number and k, by the journal book alone."""
     if len(journals) != JOURNAL_BOOK:
@@ -372,9 +386,11 @@ def page_of(books, quorum, length, after, fit):
 
 
 def hold_counts(js, steps):
-    """Every word counted both ways, and the rows' places by their definition."""
+    """Every word counted both ways, and the rows' places by their definition; on rows drawn anew, which are those before."""
     left = [left_by_deleting(j) for j in js]
-    journals, rows = books_of(*js)
+    journals, built = books_of(*js)
+    rows = bytearray(b"\7" * ROW_BOOK)
+    assert rebuild(journals, rows) == 0 and rows == built
     states = set()
     for word in words_to(6, steps):
         assert table_count(rows, word) == (0, sum(word in words for words in left))

@@ -23,7 +23,7 @@ BROKEN_LINES = "broken lines"
 PARTS = {f"{module.__name__[:-6]} {part.__name__}": part for module in (books_parts, list_parts) for part in module.PARTS}
 # Lines that are no command: an unknown name, other text, numbers too few, too many or too large, places beyond a room.
 BROKEN = ["close", "Open", " open", "open 1  2", "open 1 ", "open 1,2", "open\t1", "append x", "append -1", "append 2*", "append *2",
-          "append 2*3*4", "append 8193*1", "table 256", "count 1 2.5", "clear 1", "check 0", "digest 1", "row", "row 1 1", "lend 1",
+          "append 2*3*4", "append 8193*1", "table 256", "count 1 2.5", "clear 1", "rebuild 1", "check 0", "digest 1", "row", "row 1 1", "lend 1",
           "lend 1 1 1", "lend 3 1", "write 1", "write 0 1 1", "write 1 4352 1", "write 2 64064 1", "write 2 18446744073709551615 1",
           "fill", "fill 1 1", "fill 256", "list 1 1", "list 1 1 65553", "after 1 1 18446744073709551615 1", "lend 1 4353\ncheck",
           "lend 2 64065\nopen"]

@@ -7,6 +7,7 @@ times 7. Each line is printed back, with what was answered behind it: a number, 
     clear                             clear
     open STEP ..                      open, and append these steps        taken: how many steps were
     append STEP ..                    append, up to the first refused     taken
+    rebuild                           rebuild
     table STEP ..                     table count of a word               count
     count BYTE ..                     journal count of a word record      count
     check                             check                               book, record, byte
@@ -42,7 +43,7 @@ MOST_LENT = model.LARGEST_OUTPUT + model.WORD_RECORD
 FEW_WORDS, MANY_EQUAL, MOST_NUMBERS = 8, 5, 8192
 # How many numbers of any size stand before the bytes, and how many bytes there may be, where that isn't any number.
 HEADS = {"row": 1, "write": 2, "lend": 2, "list": 3, "after": 3}
-BYTES = {"fill": 1, **dict.fromkeys(["clear", "check", "row", "journals", "rows", "lend", "digest"], 0)}
+BYTES = {"fill": 1, **dict.fromkeys(["clear", "rebuild", "check", "row", "journals", "rows", "lend", "digest"], 0)}
 COMMAND = re.compile(r"([a-z]+)((?: \d+(?:\*\d+)?)*)")
 
 
@@ -110,6 +111,9 @@ class Trial:
             if number:
                 return f" -> {number}, taken {taken}"
         return f" -> 0, taken {len(steps)}"
+
+    def do_rebuild(self, _):
+        return f" -> {self.calls.rebuild(*self.books())}"
 
     def do_table(self, word):
         return " -> {}, count {}".format(*self.calls.table_count(self.rows(), word))

@@ -47,6 +47,10 @@ pub(crate) fn open(steps: &[u8], journals: &mut [u8], rows: &mut [u8]) {
     append(steps, journals, rows);
 }
 
+pub(crate) fn rebuild(journals: &[u8], rows: &mut [u8]) {
+    answer(books::rebuild(journals, rows));
+}
+
 pub(crate) fn table(word: &[u8], rows: &[u8]) {
     let counted = books::table_count(rows, word);
     answer(counted.number);

@@ -12,6 +12,7 @@ use crate::name::JOURNALS;
 use crate::name::LEND;
 use crate::name::LIST;
 use crate::name::OPEN;
+use crate::name::REBUILD;
 use crate::name::ROW;
 use crate::name::ROWS;
 use crate::name::TABLE;
@@ -37,6 +38,7 @@ fn call(
         CLEAR => calls::clear(journals, rows),
         OPEN => calls::open(bytes, journals, rows),
         APPEND => calls::append(bytes, journals, rows),
+        REBUILD => calls::rebuild(journals, rows),
         TABLE => calls::table(bytes, rows),
         COUNT => calls::count(bytes, journals),
         CHECK => calls::check(journals, rows),

@@ -34,6 +34,8 @@ pub(crate) const JOURNALS: u8 = 14;
 
 pub(crate) const ROWS: u8 = 15;
 
+pub(crate) const REBUILD: u8 = 16;
+
 // The command on the rooms that has this name.
 fn room_code(name: &[u8]) -> u8 {
     if same(name, b"write") {
@@ -85,6 +87,9 @@ pub(crate) fn code(name: &[u8]) -> u8 {
     if same(name, b"append") {
         return APPEND;
     }
+    if same(name, b"rebuild") {
+        return REBUILD;
+    }
     if same(name, b"journals") {
         return JOURNALS;
     }
@@ -108,7 +113,7 @@ pub(crate) fn heads(code: u8) -> usize {
 pub(crate) fn takes(code: u8, bytes: usize) -> bool {
     match code {
         NONE => false,
-        CLEAR | CHECK | ROW | JOURNALS | ROWS | LEND | DIGEST => bytes == 0,
+        CLEAR | REBUILD | CHECK | ROW | JOURNALS | ROWS | LEND | DIGEST => bytes == 0,
         FILL => bytes == 1,
         _ => true,
     }
