@@ -1,9 +1,11 @@
 //! Drives the proved library and the plain implementation side by side.
 //!
-//! A [`Pair`] holds every book twice. Each call is made on both, and both answers and every byte of
-//! the memory that was lent have to be the same afterwards; so have the bytes around it, which were
-//! not lent.
+//! A [`Pair`] holds every book for each side. Each call is made on all, and the answers and every
+//! byte of the memory that was lent have to be the same afterwards; so have the bytes around it,
+//! which were not lent. The library is called twice: as it is, and by the safe types of the crate
+//! `selquorin`, on books that are borrowed.
 
+mod borrowed;
 mod kinds;
 mod random;
 mod runs;
@@ -208,15 +210,28 @@ macro_rules! made_by {
     }};
 }
 
-/// The same books on both sides.
+/// What was lent of a side, with the fence behind each part: both books, and an output.
+fn parts<'a>(side: &'a Side, out: &'a [u8]) -> [(&'static str, &'a [u8]); 3] {
+    let [journals, rows] = &side.books;
+    [
+        ("journal book", journals),
+        ("row book", rows),
+        ("output", out),
+    ]
+}
+
+/// The same books on every side.
 #[derive(Clone)]
 pub struct Pair {
     library: Side,
+    borrowed: Side,
     plain: Side,
     /// How many bytes of each book are lent: 4,096 and 64,000, or others for a wrong size.
     pub sizes: [usize; 2],
     /// How many calls were made.
     pub calls: u64,
+    /// How many of them were made on borrowed books too.
+    pub by_borrowed: u64,
     /// What the list last wrote.
     pub out: Vec<u8>,
 }
@@ -226,16 +241,22 @@ impl Pair {
     pub fn new() -> Pair {
         Pair {
             library: Side::new(),
+            borrowed: Side::new(),
             plain: Side::new(),
             sizes: SIZES,
             calls: 0,
+            by_borrowed: 0,
             out: Vec::new(),
         }
     }
 
+    fn sides(&mut self) -> [&mut Side; 3] {
+        [&mut self.library, &mut self.borrowed, &mut self.plain]
+    }
+
     /// Books of these journals with these rows, whatever they are.
     pub fn set(&mut self, journals: &[u8], rows: &[u8]) {
-        for side in [&mut self.library, &mut self.plain] {
+        for side in self.sides() {
             let (j, r) = side.write(SIZES);
             j.copy_from_slice(journals);
             r.copy_from_slice(rows);
@@ -247,73 +268,48 @@ impl Pair {
         &self.plain.books[book][..SIZES[book]]
     }
 
-    /// Writes a byte into a book on both sides.
+    /// Writes a byte into a book on every side.
     pub fn poke(&mut self, book: usize, at: usize, byte: u8) {
         assert!(at < SIZES[book]);
-        self.library.books[book][at] = byte;
-        self.plain.books[book][at] = byte;
+        for side in self.sides() {
+            side.books[book][at] = byte;
+        }
     }
 
-    /// Makes a call on both sides, and compares both answers and all that was lent.
+    /// Makes a call on every side, and compares the answers and all that was lent.
     pub fn call(&mut self, call: &Call) -> Result<Answer, Difference> {
         self.calls += 1;
-        let out = match call {
-            Call::List { out, filled, .. } => vec![*filled; *out],
-            _ => Vec::new(),
+        let (lent, filled) = match call {
+            Call::List { out, filled, .. } => (*out, *filled),
+            _ => (0, 0),
         };
-        let mut outs = [out.clone(), out];
-        for out in &mut outs {
-            out.resize(out.len() + FENCE, FENCE_BYTE);
-        }
-        let lent = outs[0].len() - FENCE;
+        let mut outs = [(); 3].map(|()| {
+            let mut out = vec![filled; lent];
+            out.resize(lent + FENCE, FENCE_BYTE);
+            out
+        });
         // The library is lent a word or a word record of its own, which it must leave as it is.
         let given = call.clone();
         let by_library = self.by_library(&given, &mut outs[0][..lent]);
-        let by_plain = self.by_plain(call, &mut outs[1][..lent]);
+        let by_borrowed = self.by_borrowed(call, &mut outs[1][..lent]);
+        let by_plain = self.by_plain(call, &mut outs[2][..lent]);
 
-        let mut said = Vec::new();
-        if by_library != by_plain {
-            said.push(format!("library {by_library:?}, plain {by_plain:?}"));
+        let mut said = self.differing(&outs);
+        if by_library != by_plain || by_borrowed.is_some_and(|answer| answer != by_plain) {
+            said.push(format!(
+                "library {by_library:?}, borrowed {by_borrowed:?}, plain {by_plain:?}"
+            ));
         }
         if given != *call {
             said.push(format!(
                 "the library has written into what it reads: {given:?}"
             ));
         }
-        let [library_out, plain_out] = &outs;
-        let parts = [
-            ("journal book", &self.library.books[0], &self.plain.books[0]),
-            ("row book", &self.library.books[1], &self.plain.books[1]),
-            ("output", library_out, plain_out),
-        ];
-        for (name, a, b) in parts {
-            if a != b {
-                let at = (0..a.len()).find(|&at| a[at] != b[at]).unwrap_or(a.len());
-                said.push(format!(
-                    "{name}: first differing byte {at}, library {}, plain {}",
-                    a[at], b[at]
-                ));
-            }
-        }
-        for (name, bytes, end) in [
-            ("journal book", &self.plain.books[0], SIZES[0]),
-            ("row book", &self.plain.books[1], SIZES[1]),
-            ("output", plain_out, lent),
-        ] {
-            if bytes[end..].iter().any(|&byte| byte != FENCE_BYTE) {
-                said.push(format!("{name}: bytes behind it have changed"));
-            }
-        }
+        self.by_borrowed += u64::from(by_borrowed.is_some());
         if !said.is_empty() {
-            let sizes = self.sizes;
-            return Err(Difference(format!(
-                "call {} ({call:?}) with books of {sizes:?} bytes: {}",
-                self.calls,
-                said.join("; ")
-            )));
+            return Err(self.difference(call, &said.join("; ")));
         }
-        outs[1].truncate(lent);
-        self.out = outs[1].clone();
+        self.out = outs[2][..lent].to_vec();
         Ok(by_plain)
     }
 
@@ -321,9 +317,49 @@ impl Pair {
         made_by!(raw, self.library, self.sizes, call, out, |after: u8| after)
     }
 
+    /// None where the safe types rule the call out. It writes nothing then on the other sides.
+    fn by_borrowed(&mut self, call: &Call, out: &mut [u8]) -> Option<Answer> {
+        let (journals, rows) = self.borrowed.write(self.sizes);
+        borrowed::made(journals, rows, call, out)
+    }
+
     fn by_plain(&mut self, call: &Call, out: &mut [u8]) -> Answer {
         made_by!(plain, self.plain, self.sizes, call, out, |after: u8| after
             != 0)
+    }
+
+    /// Where a side's bytes aren't those of plain, and where the bytes behind them have changed.
+    fn differing(&self, outs: &[Vec<u8>; 3]) -> Vec<String> {
+        let mut said = Vec::new();
+        let [library_out, borrowed_out, plain_out] = outs;
+        let wanted = parts(&self.plain, plain_out);
+        for (side, seen) in [
+            ("library", parts(&self.library, library_out)),
+            ("borrowed", parts(&self.borrowed, borrowed_out)),
+        ] {
+            for ((name, a), (_, b)) in seen.into_iter().zip(wanted) {
+                if let Some(at) = (0..b.len()).find(|&at| a[at] != b[at]) {
+                    let (a, b) = (a[at], b[at]);
+                    said.push(format!(
+                        "{name}: first differing byte {at}, {side} {a}, plain {b}"
+                    ));
+                }
+            }
+        }
+        for (name, bytes) in wanted {
+            let fence = &bytes[bytes.len() - FENCE..];
+            if fence.iter().any(|&byte| byte != FENCE_BYTE) {
+                said.push(format!("{name}: bytes behind it have changed"));
+            }
+        }
+        said
+    }
+
+    fn difference(&self, call: &Call, said: &str) -> Difference {
+        let (calls, sizes) = (self.calls, self.sizes);
+        Difference(format!(
+            "call {calls} ({call:?}) with books of {sizes:?} bytes: {said}"
+        ))
     }
 }
 

@@ -16,9 +16,10 @@ pub const ROW_BOOK: usize = 64_000;
 /// own, [`BooksRef`] and [`BooksMut`] borrow the caller's, to read or to write it too. Their calls
 /// are the same, but that [`BooksRef`] has only those that read.
 ///
-/// Books that were cleared and are changed by [`clear`](Books::clear), [`open`](Books::open) and
-/// [`append`](Books::append) only are always sound. Bytes that come from elsewhere may be damaged.
-/// Every call answers for these too: with [`Error::Damaged`] where it needs sound books.
+/// Books that were cleared, and that only [`clear`](Books::clear), [`open`](Books::open),
+/// [`append`](Books::append) and [`rebuild`](Books::rebuild) have changed, are always sound. Bytes
+/// that come from elsewhere may be damaged. Every call answers for these too: with
+/// [`Error::Damaged`] where it needs sound books.
 #[derive(Clone, Copy)]
 pub struct BooksIn<J, R> {
     pub(crate) journals: J,

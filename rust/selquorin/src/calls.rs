@@ -226,4 +226,29 @@ where
         let number = raw::append(&mut self.journals[..], &mut self.rows[..], step.code());
         done(number)
     }
+
+    /// Draws the row book anew from the journal book alone, whatever the row book held: the books
+    /// are sound then. So a row book can be mended, or left out of what is kept.
+    ///
+    /// ```
+    /// # use selquorin::{Books, Error, Step, Verdict};
+    /// # fn main() -> Result<(), Error> {
+    /// let mut books = Books::new();
+    /// books.open()?;
+    /// books.append(Step::new(7)?)?;
+    /// books.row_bytes_mut().fill(99);
+    /// assert_eq!(books.check(), Verdict::RowRecord { row: 0, byte: 0 });
+    /// books.rebuild()?;
+    /// assert_eq!(books.check(), Verdict::Sound);
+    /// # Ok(())
+    /// # }
+    /// ```
+    ///
+    /// # Errors
+    ///
+    /// [`Damaged`](Error::Damaged), if the journal book lacks its form;
+    /// [`RowsFull`](Error::RowsFull), if its journals have more than 1,000 live states.
+    pub fn rebuild(&mut self) -> Result<(), Error> {
+        done(raw::rebuild(&self.journals[..], &mut self.rows[..]))
+    }
 }

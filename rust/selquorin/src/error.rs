@@ -18,7 +18,7 @@ pub enum Error {
     NoJournal,
     /// 5: the last journal has 200 steps.
     JournalFull,
-    /// 6: with this step there would be more than 1,000 rows.
+    /// 6: there would be more than 1,000 rows.
     RowsFull,
     /// 7: 16 journals are open already.
     JournalsFull,
@@ -74,7 +74,7 @@ impl fmt::Display for Error {
             Error::WrongStep => "a step's code is above 15",
             Error::NoJournal => "no journal is open that the step could be appended to",
             Error::JournalFull => "the last journal is full: it has 200 steps",
-            Error::RowsFull => "no room: with this step there would be more than 1,000 rows",
+            Error::RowsFull => "no room: there would be more than 1,000 rows",
             Error::JournalsFull => "no room: 16 journals are open already",
             Error::WrongQuorum => "the quorum is not between 1 and the number of journals",
             Error::WrongLength => "the list's length is above 15",
