@@ -178,12 +178,23 @@ def check_and_count(desk, data):
         hold_kept(folder, data)
 
 
+def rebuild(desk, data):
+    """The rows drawn anew; where that is refused, the file stays."""
+    journals, rows = data[:model.JOURNAL_BOOK], bytearray(data[model.JOURNAL_BOOK:])
+    number = model.rebuild(journals, rows)
+    with tempfile.TemporaryDirectory() as folder:
+        put(folder, BOOKS, data)
+        desk.held(folder, number, b"", "rebuild", "--books", BOOKS)
+        hold_kept(folder, journals + rows)
+
+
 def checking(desk):
     files = damaged(kept.seed(DAMAGED))
     print(damaged_line(files), flush=True)
     yield DAMAGED, lambda: run_cases.hold_line(DAMAGED, damaged_line(files))
     for n, data in enumerate(files):
         yield f"damaged {n}", lambda: check_and_count(desk, data)
+        yield f"damaged {n}, rebuilt", lambda: rebuild(desk, data)
 
 
 def wrong_size(desk, size):
@@ -191,6 +202,7 @@ def wrong_size(desk, size):
         put(folder, BOOKS, bytes(size))
         desk.held(folder, 1, b"", "check", "--books", BOOKS)
         desk.held(folder, 1, b"", "count", "16", "--books", BOOKS)
+        desk.held(folder, 1, b"", "rebuild", "--books", BOOKS)
         desk.held(folder, 1, b"refused 1 books\n", "list", "--books", BOOKS, "--length", "16")
         hold_kept(folder, bytes(size))
 

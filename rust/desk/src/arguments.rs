@@ -23,6 +23,7 @@ pub enum Command {
     Count { codes: Vec<usize>, books: BooksFrom },
     Load { entries: Source, file: PathBuf },
     Check { books: Source },
+    Rebuild { file: PathBuf },
 }
 
 /// Reads the program's arguments. Help and version go before all else, wherever they stand.
@@ -40,6 +41,7 @@ pub fn command(mut words: Vec<OsString>) -> Result<Command, Failure> {
         Some("count") => count(Given::new("count", &[FROM, BOOKS], words)?),
         Some("load") => load(Given::new("load", &[BOOKS], words)?),
         Some("check") => check(Given::new("check", &[BOOKS], words)?),
+        Some("rebuild") => rebuild(Given::new("rebuild", &[BOOKS], words)?),
         _ => {
             let why = format!("there is no command {}", name.to_string_lossy());
             Err(Failure::WrongUse(why))
@@ -92,6 +94,12 @@ fn check(given: Given) -> Result<Command, Failure> {
     none(&given)?;
     let books = kept_books(&given)?;
     Ok(Command::Check { books })
+}
+
+fn rebuild(given: Given) -> Result<Command, Failure> {
+    none(&given)?;
+    let file = file_of_books(&given)?;
+    Ok(Command::Rebuild { file })
 }
 
 /// Kept books, or entries: those of a file, or of standard input where none is named.

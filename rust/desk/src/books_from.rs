@@ -1,9 +1,9 @@
 //! Where books come from: they are loaded from entries, or were kept in a file.
 
-use crate::failure::{Failure, Part};
+use crate::failure::Failure;
 use crate::source::Source;
 use crate::{entries, kept};
-use selquorin::{Books, Error};
+use selquorin::Books;
 
 /// Where books come from.
 #[derive(Debug)]
@@ -25,10 +25,5 @@ impl BooksFrom {
         match self {
             BooksFrom::Entries(source) | BooksFrom::Kept(source) => source,
         }
-    }
-
-    /// What says that these books are refused.
-    pub fn refused(&self, error: Error) -> Failure {
-        Failure::refused(Part::Books(self.source().clone()), error)
     }
 }

@@ -1,6 +1,6 @@
 //! The check of kept books.
 
-use crate::failure::{Failure, Part};
+use crate::failure::Failure;
 use crate::kept;
 use crate::output;
 use crate::source::Source;
@@ -8,17 +8,11 @@ use selquorin::{Error, Verdict};
 
 /// Prints that the books are sound, or where the first fault is.
 pub fn check(source: &Source) -> Result<(), Failure> {
-    let verdict = kept::books(source)?.check();
+    let books = kept::books(source)?;
+    let verdict = books.check();
     let ended = match verdict {
         Verdict::Sound => Ok(()),
-        _ => {
-            let books = Part::Books(source.clone());
-            Err(Failure::refused_as(
-                books,
-                Error::Damaged,
-                verdict.to_string(),
-            ))
-        }
+        _ => Err(kept::refused(source, &books, Error::Damaged)),
     };
     output::print_beside(line(verdict), ended)
 }

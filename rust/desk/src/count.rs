@@ -2,6 +2,7 @@
 
 use crate::books_from::BooksFrom;
 use crate::failure::{Failure, Part};
+use crate::kept;
 use crate::output;
 use selquorin::{Books, Error, Step, Verdict};
 
@@ -9,7 +10,8 @@ use selquorin::{Books, Error, Step, Verdict};
 pub fn count(codes: &[usize], from: &BooksFrom) -> Result<(), Failure> {
     let books = from.books()?;
     let word = word(codes).map_err(|error| Failure::refused(Part::Word, error))?;
-    let (count, k) = counted(&books, &word).map_err(|error| from.refused(error))?;
+    let (count, k) =
+        counted(&books, &word).map_err(|error| kept::refused(from.source(), &books, error))?;
     output::print(format_args!("{count} of {k}\n"))
 }
 

@@ -28,9 +28,28 @@ fn wrong_size(source: &Source, error: Error, bytes: usize) -> Failure {
     Failure::refused_as(Part::Books(source.clone()), error, why)
 }
 
+/// What says that books are refused, and in the words of the check why.
+pub fn refused(source: &Source, books: &Books, error: Error) -> Failure {
+    Failure::refused_as(
+        Part::Books(source.clone()),
+        error,
+        books.check().to_string(),
+    )
+}
+
 /// Loads entries and keeps their books. A refused entry leaves the file as it was.
 pub fn load(source: &Source, file: &Path) -> Result<(), Failure> {
     let books = entries::books(source)?;
+    keep(&books, file)
+}
+
+/// Draws the rows of kept books anew from their journals. What is refused stays as it was.
+pub fn rebuild(file: &Path) -> Result<(), Failure> {
+    let source = Source::File(file.to_path_buf());
+    let mut books = books(&source)?;
+    books
+        .rebuild()
+        .map_err(|error| refused(&source, &books, error))?;
     keep(&books, file)
 }
 

@@ -3,6 +3,7 @@
 use crate::ask::Ask;
 use crate::books_from::BooksFrom;
 use crate::failure::{Failure, Part};
+use crate::kept;
 use crate::output::{self, Output};
 
 /// Prints the list, or the one line of a refusal.
@@ -19,8 +20,9 @@ pub fn list(from: &BooksFrom, ask: &Ask) -> Result<(), Failure> {
 /// Everything that can be refused is looked at before the first line is printed.
 fn print_list(from: &BooksFrom, ask: &Ask) -> Result<(), Failure> {
     let books = from.books()?;
-    let rows = books.live_rows().map_err(|error| from.refused(error))?;
-    let k = books.open_journals().map_err(|error| from.refused(error))?;
+    let damaged = |error| kept::refused(from.source(), &books, error);
+    let rows = books.live_rows().map_err(damaged)?;
+    let k = books.open_journals().map_err(damaged)?;
     let (quorum, length) = ask.read(k)?;
     let words = books.list(quorum, length);
     let words = words.map_err(|error| Failure::refused(Part::Ask, error))?;

@@ -31,6 +31,7 @@ fn run(command: Command) -> Result<(), Failure> {
         Command::Count { codes, books } => count::count(&codes, &books),
         Command::Load { entries, file } => kept::load(&entries, &file),
         Command::Check { books } => check::check(&books),
+        Command::Rebuild { file } => kept::rebuild(&file),
     }
 }
 

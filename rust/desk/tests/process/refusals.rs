@@ -1,8 +1,8 @@
 //! Each refusal: its number in words, its status, and nothing done.
 
 use crate::folder::{entries, kept, Folder, ONE, TWO};
-use crate::ran::{command, run};
-use plain::{journal_book, JOURNAL_BOOK};
+use crate::ran::{command, run, Ran};
+use plain::{journal_book, picture, JOURNAL_BOOK, ROW_BOOK};
 
 /// Entries that are refused at their last one: the number, how many are taken before it, and the entries.
 fn refused_entries() -> Vec<(u8, usize, Vec<u8>)> {
@@ -94,68 +94,78 @@ fn a_wrong_size() {
     let folder = Folder::new("a_wrong_size");
     let mut long = kept(&TWO);
     long.push(0);
-    for (bytes, has) in [
-        (&[][..], "has 0"),
-        (&long[..68_095], "has 68095"),
-        (&long[..], "has more"),
-    ] {
-        folder.put("b", bytes);
-        let words: [(&[&str], &str); 3] = [
-            (
-                &["list", "--books", "b", "--length", "16"],
-                "refused 1 books\n",
-            ),
-            (&["count", "16", "--books", "b"], ""),
-            (&["check", "--books", "b"], ""),
-        ];
-        for (words, printed) in words {
-            let ran = run(command(folder.path(), words), b"");
+    let commands: [(&[&str], &str); 4] = [
+        (&["list", "--length", "16"], "refused 1 books\n"),
+        (&["count", "16"], ""),
+        (&["check"], ""),
+        (&["rebuild"], ""),
+    ];
+    for (size, has) in [(0, "has 0"), (68_095, "has 68095"), (68_097, "has more")] {
+        folder.put("b", &long[..size]);
+        for (words, printed) in commands {
+            let ran = books(&folder, words);
             ran.is_refused(1, printed);
-            assert!(
-                ran.said.contains("68096 bytes") && ran.said.contains(has),
-                "{ran:?}"
-            );
+            assert!(ran.said.contains("has 68096 bytes"), "{ran:?}");
+            assert!(ran.said.contains(has), "{ran:?}");
         }
-        folder.has("b", bytes);
+        folder.has("b", &long[..size]);
     }
     assert_eq!(folder.names(), ["b"]);
 }
 
-/// Damaged books, and where their first fault is: a record of the journal book, a byte of the row book, too many states.
+/// Runs a command on the file of books.
+fn books(folder: &Folder, words: &[&str]) -> Ran {
+    run(
+        command(folder.path(), &[words, &["--books", "b"]].concat()),
+        b"",
+    )
+}
+
+/// The example's books with one byte changed.
+fn changed(at: usize) -> Vec<u8> {
+    let mut bytes = kept(&TWO);
+    bytes[at] ^= 64;
+    bytes
+}
+
+/// Three journals that have more than 1,000 live states.
+fn too_many() -> Vec<u8> {
+    let up: Vec<u8> = (0..200).map(|n| n % 16).collect();
+    let down = up.iter().rev().copied().collect();
+    let journals = [up[7..].to_vec(), up, down];
+    assert!(picture(&journals).is_none());
+    [journal_book(&journals), vec![0; ROW_BOOK]].concat()
+}
+
+/// Damaged books, and where their first fault is.
 #[test]
 fn damaged_books() {
     let folder = Folder::new("damaged_books");
-    let changed = |at: usize| {
-        let mut bytes = kept(&TWO);
-        bytes[at] ^= 64;
-        bytes
-    };
-    let many = [(); 3].map(|()| (0..200).map(|n| n % 16).collect::<Vec<u8>>());
-    let [mut first, second, third] = many;
-    first.reverse();
-    let many = journal_book(&[first, second, third[7..].to_vec()]);
+    let row = |row: usize, byte: usize| changed(JOURNAL_BOOK + 64 * row + byte);
     let files = [
         ("book 1 record 1 byte 0\n", changed(256 + 202)),
-        ("book 2 record 0 byte 48\n", changed(JOURNAL_BOOK + 48)),
-        (
-            "book 2 record 5 byte 17\n",
-            changed(JOURNAL_BOOK + 5 * 64 + 17),
-        ),
-        (
-            "book 2 record 999 byte 63\n",
-            changed(JOURNAL_BOOK + 63_999),
-        ),
-        (
-            "book 2 record 1000 byte 0\n",
-            [many, vec![0; 64_000]].concat(),
-        ),
+        ("book 2 record 0 byte 48\n", row(0, 48)),
+        ("book 2 record 5 byte 17\n", row(5, 17)),
+        ("book 2 record 999 byte 63\n", row(999, 63)),
+        ("book 2 record 1000 byte 0\n", too_many()),
     ];
     for (fault, bytes) in files {
         folder.put("b", &bytes);
-        run(command(folder.path(), &["check", "--books", "b"]), b"").is_refused(2, fault);
-        run(command(folder.path(), &["count", "1", "--books", "b"]), b"").is_refused(2, "");
-        let list = ["list", "--books", "b", "--length", "16"];
-        run(command(folder.path(), &list), b"").is_refused(2, "refused 2 books\n");
+        books(&folder, &["check"]).is_refused(2, fault);
+        books(&folder, &["count", "1"]).is_refused(2, "");
+        books(&folder, &["list", "--length", "16"]).is_refused(2, "refused 2 books\n");
         folder.has("b", &bytes);
+    }
+}
+
+/// Journals that no rows can be drawn from.
+#[test]
+fn a_rebuild() {
+    let folder = Folder::new("a_rebuild");
+    for (number, bytes) in [(2, changed(0)), (2, changed(256 + 202)), (6, too_many())] {
+        folder.put("b", &bytes);
+        books(&folder, &["rebuild"]).is_refused(number, "");
+        folder.has("b", &bytes);
+        assert_eq!(folder.names(), ["b"]);
     }
 }

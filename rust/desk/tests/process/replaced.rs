@@ -2,6 +2,7 @@
 
 use crate::folder::{entries, kept, Folder, ONE, TWO};
 use crate::ran::{command, command_behind, run, Ran};
+use plain::JOURNAL_BOOK;
 use std::fs::{self, Permissions};
 use std::os::unix::fs::{symlink, FileTypeExt, PermissionsExt};
 use std::process::Command;
@@ -34,6 +35,27 @@ fn books_are_kept() {
     run(command(folder.path(), &["load", "--books", "new"]), b"").is_done("");
     folder.has("new", &[0; 68_096]);
     assert_eq!(folder.names(), ["e", "new", &"n".repeat(255), "old"]);
+}
+
+/// The rows of whatever the file held: those of the journals.
+#[test]
+fn books_are_rebuilt() {
+    let folder = Folder::new("books_are_rebuilt");
+    let due = kept(&TWO);
+    symlink("b", folder.join("link")).expect("a link is made");
+    for byte in [0, 1, 255] {
+        let mut bytes = due.clone();
+        bytes[JOURNAL_BOOK..].fill(byte);
+        for books in ["b", "link"] {
+            folder.put("b", &bytes);
+            run(command(folder.path(), &["rebuild", "--books", books]), b"").is_done("");
+            folder.has("b", &due);
+        }
+    }
+    run(command(folder.path(), &["rebuild", "--books=b"]), b"").is_done("");
+    folder.has("b", &due);
+    assert!(fs::read_link(folder.join("link")).is_ok());
+    assert_eq!(folder.names(), ["b", "link"]);
 }
 
 #[test]

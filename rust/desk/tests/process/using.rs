@@ -54,7 +54,7 @@ fn version_is_everywhere() {
 fn wrong_use_is_named_and_does_nothing() {
     let folder = Folder::new("wrong_use_is_named_and_does_nothing");
     folder.put("b", &kept(&TWO));
-    let wrong: [(&str, &[&str]); 29] = [
+    let wrong: [(&str, &[&str]); 31] = [
         ("no command", &[]),
         ("no command lists", &["lists"]),
         ("no command ", &[""]),
@@ -67,9 +67,11 @@ fn wrong_use_is_named_and_does_nothing() {
         ("takes no b", &["list", "a", "b"]),
         ("takes no b", &["load", "a", "b", "--books", "c"]),
         ("takes no b", &["check", "b", "--books", "b"]),
+        ("takes no b", &["rebuild", "b"]),
         ("takes no --books", &["check", "--", "--books", "b"]),
         ("--books is missing", &["load", "a"]),
         ("--books is missing", &["check"]),
+        ("--books is missing", &["rebuild"]),
         ("--books has no value", &["check", "--books"]),
         (
             "--books has no value",
@@ -104,6 +106,7 @@ fn wrong_use_is_named_and_does_nothing() {
         used(&folder, words).is_wrong_use(named);
     }
     used(&folder, &["load", "--books", "-"]).is_wrong_use("--books has to be a file");
+    used(&folder, &["rebuild", "--books=-"]).is_wrong_use("--books has to be a file");
     let word = OsStr::from_bytes(b"\xff");
     run(command(folder.path(), &[word]), b"").is_wrong_use("no command");
     folder.has("b", &kept(&TWO));
