@@ -33,6 +33,8 @@ pub enum Call {
     Open,
     /// Append a step.
     Append(u8),
+    /// Rebuild.
+    Rebuild,
     /// Count a word by the table.
     TableCount(Vec<u8>),
     /// Count the word of a word record by the journals.
@@ -68,6 +70,7 @@ impl fmt::Debug for Call {
             Call::Clear => write!(f, "clear"),
             Call::Open => write!(f, "open"),
             Call::Append(step) => write!(f, "append {step}"),
+            Call::Rebuild => write!(f, "rebuild"),
             Call::TableCount(word) => write!(f, "table count of {word:?}"),
             Call::JournalCount(record) => write!(f, "journal count of record {record:?}"),
             Call::OpenJournals => write!(f, "open journals"),
@@ -169,6 +172,10 @@ macro_rules! made_by {
             Call::Append(step) => {
                 let (journals, rows) = $side.write(sizes);
                 changed($module::append(journals, rows, *step))
+            }
+            Call::Rebuild => {
+                let (journals, rows) = $side.write(sizes);
+                changed($module::rebuild(journals, rows))
             }
             Call::TableCount(word) => {
                 let answer = $module::table_count($side.read(sizes).1, word);

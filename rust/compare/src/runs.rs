@@ -9,11 +9,15 @@ use std::collections::BTreeMap;
 pub struct Seen(pub BTreeMap<String, u64>);
 
 impl Seen {
+    /// How often a call was made on borrowed books too, whatever it answered.
+    pub const BORROWED: &'static str = "on borrowed books";
+
     fn note(&mut self, call: &Call, answer: Answer) {
         let name = match call {
             Call::Clear => "clear",
             Call::Open => "open",
             Call::Append(_) => "append",
+            Call::Rebuild => "rebuild",
             Call::TableCount(_) => "table count",
             Call::JournalCount(_) => "journal count",
             Call::OpenJournals => "open journals",
@@ -44,7 +48,7 @@ impl Seen {
 
     /// Every number that a call may answer and that has not been seen.
     pub fn missing(&self) -> Vec<&'static str> {
-        const ALL: [&str; 49] = [
+        const ALL: [&str; 53] = [
             "clear: 0",
             "clear: 1",
             "open: 0",
@@ -58,6 +62,10 @@ impl Seen {
             "append: 4",
             "append: 5",
             "append: 6",
+            "rebuild: 0",
+            "rebuild: 1",
+            "rebuild: 2",
+            "rebuild: 6",
             "table count: 0",
             "table count: 1",
             "table count: 2",
@@ -213,6 +221,8 @@ pub fn run(seed: u64, number: u64) -> (Seen, u64, Option<Difference>) {
         damaged_for: 0,
     };
     let difference = run.go().err();
+    let by_borrowed = run.pair.by_borrowed;
+    run.seen.0.insert(Seen::BORROWED.to_string(), by_borrowed);
     (run.seen, run.pair.calls, difference)
 }
 
@@ -286,7 +296,8 @@ impl Run {
             }
             66..=68 => self.call(Call::OpenJournals).map(drop),
             69..=71 => self.call(Call::LiveRows).map(drop),
-            72..=77 => self.call(Call::Check).map(drop),
+            72..=73 => self.call(Call::Rebuild).map(drop),
+            74..=77 => self.call(Call::Check).map(drop),
             78..=93 => {
                 let list = self.list();
                 self.call(list).map(drop)

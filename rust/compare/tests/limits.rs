@@ -267,3 +267,34 @@ fn open_journals_and_live_rows_of_wrong_books() {
         assert_eq!(numbers(&mut pair), wanted, "book {book}, byte {at}");
     }
 }
+
+/// Rebuild reads the journal book alone: of the row book it wants nothing but the size. Done, it
+/// leaves sound books.
+#[test]
+fn rebuilt_books() {
+    let mut sound = Pair::new();
+    journal(&mut sound, &[1, 2, 1]);
+    journal(&mut sound, &[1, 1, 2]);
+    for (sizes, wanted) in [
+        ([4096, 64_000], 0),
+        ([4095, 64_000], 1),
+        ([4096, 64_001], 1),
+        ([0, 0], 1),
+    ] {
+        let mut pair = sound.clone();
+        pair.sizes = sizes;
+        assert_eq!(call(&mut pair, Call::Rebuild).number, wanted);
+        assert_eq!(pair.book(1), sound.book(1), "books of {sizes:?} bytes");
+    }
+    let mut pair = sound.clone();
+    pair.set(sound.book(0), &[9; 64_000]);
+    assert_eq!(call(&mut pair, Call::Rebuild).number, 0);
+    assert_eq!(pair.book(1), sound.book(1));
+    // A third journal has other rows; a gap before it, or a step above 15, leaves no journal book.
+    for (at, byte, wanted) in [(256 * 2, 1, 0), (256 * 3, 1, 2), (256 + 2, 16, 2)] {
+        let mut pair = sound.clone();
+        pair.poke(0, at, byte);
+        assert_eq!(call(&mut pair, Call::Rebuild).number, wanted, "byte {at}");
+        assert_eq!(call(&mut pair, Call::Check).number, wanted);
+    }
+}

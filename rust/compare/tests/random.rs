@@ -73,11 +73,10 @@ fn random_runs() {
     for (answer, times) in &seen.0 {
         say(&format!("compare: {times:>7} {answer}"));
     }
-    say(&format!(
-        "compare: {} calls in {} runs, all alike",
-        made.into_inner(),
-        next.into_inner()
-    ));
+    let (made, runs) = (made.into_inner(), next.into_inner());
+    say(&format!("compare: {made} calls in {runs} runs, all alike"));
+    let borrowed = seen.0[Seen::BORROWED];
+    assert!(2 * borrowed > made, "only {borrowed} on borrowed books");
     if least >= LONG {
         assert_eq!(seen.missing(), Vec::<&str>::new(), "answers never seen");
     }

@@ -31,6 +31,7 @@ fn calls_that_write() {
     assert_eq!(in_a_thread(|(j, r)| raw::clear(j, r)), 0);
     assert_eq!(in_a_thread(|(j, r)| raw::open(j, r)), 0);
     assert_eq!(in_a_thread(|(j, r)| raw::append(j, r, 4)), 0);
+    assert_eq!(in_a_thread(|(j, r)| raw::rebuild(j, r)), 0);
 }
 
 #[test]

@@ -1,8 +1,8 @@
 //! The safe types of the crate `selquorin`, beside the plain implementation.
 
 use compare::{grow, Kind, Random};
-use plain::{journal_book, picture};
-use selquorin::{Books, Error, Step, Verdict, Word, LARGEST_PAGE};
+use plain::{journal_book, picture, Journal};
+use selquorin::{Books, BooksMut, BooksRef, Error, Step, Verdict, Word, LARGEST_PAGE};
 
 const KIND: Kind = Kind {
     name: "small",
@@ -106,6 +106,106 @@ fn pages_make_the_whole_list() {
 }
 
 #[test]
+fn journals_are_read_as_steps() {
+    let mut random = Random::new(6);
+    for _ in 0..12 {
+        let journals = grow(&mut random, KIND, 200);
+        let rows = picture(&journals).expect("there are few enough states");
+        let bytes = journal_book(&journals);
+        let books = BooksRef::from_bytes(&bytes, &rows).unwrap();
+        let codes = |steps: &[Step]| steps.iter().map(|step| step.code()).collect();
+        let all: Vec<Journal> = books.journals().unwrap().map(codes).collect();
+        assert_eq!(all, journals);
+        for (number, journal) in journals.iter().enumerate() {
+            assert_eq!(
+                books.journal(number).unwrap().map(codes).as_ref(),
+                Some(journal)
+            );
+        }
+        for number in [journals.len(), 16, usize::MAX] {
+            assert_eq!(books.journal(number), Ok(None));
+        }
+    }
+}
+
+#[test]
+fn rows_are_read_as_places_arcs_and_count() {
+    let mut random = Random::new(7);
+    for _ in 0..12 {
+        let journals = grow(&mut random, KIND, 1000);
+        let rows = picture(&journals).expect("there are few enough states");
+        let bytes = journal_book(&journals);
+        let books = BooksRef::from_bytes(&bytes, &rows).unwrap();
+        for (number, record) in rows.chunks_exact(64).enumerate() {
+            let row = books.row(number).unwrap();
+            for i in 0..16 {
+                let (place, arc) = (record[i], [record[16 + 2 * i], record[17 + 2 * i]]);
+                assert_eq!(row.places()[i].unwrap_or(255), place);
+                let arc = usize::from(u16::from_le_bytes(arc));
+                assert_eq!(row.arcs()[i].unwrap_or(0), arc);
+            }
+            assert_eq!(row.count(), record[48]);
+        }
+    }
+}
+
+#[test]
+fn words_have_their_counts() {
+    let mut random = Random::new(8);
+    for _ in 0..12 {
+        let (books, mut journals, mut rows, k) = books(&mut random);
+        for quorum in 1..=k {
+            let words = plain_list(&journals, &rows, quorum, 4, None);
+            let codes = |word: &Word| word.record()[1..=word.len()].to_vec();
+            let count = |word: &Word| plain::table_count(&rows, &codes(word)).count;
+            let wanted: Vec<(Word, u8)> = words.iter().map(|word| (*word, count(word))).collect();
+            for page in [1, 3, LARGEST_PAGE] {
+                let words = books.list_paged(quorum, 4, None, page).unwrap();
+                let hint = words.size_hint();
+                let counted = words.with_counts();
+                assert_eq!(counted.size_hint(), hint);
+                assert_eq!(counted.collect::<Vec<_>>(), wanted);
+            }
+            let borrowed = BooksMut::from_bytes(&mut journals, &mut rows).unwrap();
+            let counted = borrowed.list(quorum, 4).unwrap().with_counts();
+            assert_eq!(counted.collect::<Vec<_>>(), wanted);
+        }
+    }
+}
+
+#[test]
+fn a_row_book_is_drawn_anew() {
+    let mut random = Random::new(9);
+    for _ in 0..12 {
+        let (sound, _, _, _) = books(&mut random);
+        let mut books = sound.clone();
+        books.row_bytes_mut().fill_with(|| random.byte());
+        assert_ne!(books.check(), Verdict::Sound);
+        assert_eq!(books.rebuild(), Ok(()));
+        assert_eq!(books, sound);
+    }
+}
+
+#[test]
+fn a_row_book_is_drawn_of_right_journals_only() {
+    let mut books = Books::new();
+    for (at, error) in [(0, Error::Damaged), (1, Error::RowsFull)] {
+        let many = journal_book(&many_states());
+        books.journal_bytes_mut().copy_from_slice(&many);
+        books.journal_bytes_mut()[0] = at;
+        let before = books.clone();
+        assert_eq!(books.rebuild(), Err(error));
+        assert_eq!(books, before);
+    }
+}
+
+/// Journals with more than 1,000 live states.
+fn many_states() -> Vec<Journal> {
+    let journal = |n: usize| (0..50).map(|i| (i * (n + 2) % 7) as u8).collect();
+    (0..16).map(journal).collect()
+}
+
+#[test]
 fn refusals_are_errors() {
     let mut books = Books::new();
     let step = Step::new(1).unwrap();
@@ -189,15 +289,13 @@ fn damage_is_found_where_it_is() {
     assert_eq!(books.table_count(word.steps()), Ok(2));
     assert_eq!(books.journal_count(&word), Err(Error::Damaged));
     assert_eq!(books.open_journals(), Err(Error::Damaged));
+    assert_eq!(books.journals().err(), Some(Error::Damaged));
+    assert_eq!(books.journal(0), Err(Error::Damaged));
     assert_eq!(books.live_rows(), Err(Error::Damaged));
 
     books = sound.clone();
-    let many: Vec<Vec<u8>> = (0..16)
-        .map(|n| (0..50).map(|i| (i * (n + 2) % 7) as u8).collect())
-        .collect();
-    books
-        .journal_bytes_mut()
-        .copy_from_slice(&journal_book(&many));
+    let many = journal_book(&many_states());
+    books.journal_bytes_mut().copy_from_slice(&many);
     assert_eq!(books.check(), Verdict::TooManyStates);
     assert_eq!(books.open_journals(), Ok(16));
     assert_eq!(books.live_rows(), Err(Error::Damaged));

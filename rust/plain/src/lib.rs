@@ -1,4 +1,5 @@
-//! The calls of document 01, and how many journals and rows there are, straight from its rules.
+//! The calls of document 01, how many journals and rows there are, and rebuild, straight from its
+//! rules.
 //!
 //! This crate shares no code with the proved library or its wrapper. It is there to be compared
 //! with, so it prefers the plain way of saying a thing: journals as rows of steps, states as rows
@@ -289,6 +290,21 @@ pub fn append(journals: &mut [u8], rows: &mut [u8], step: u8) -> u8 {
         return 6;
     };
     journals.copy_from_slice(&journal_book(&longer));
+    rows.copy_from_slice(&drawn);
+    0
+}
+
+/// Rebuild: the row book becomes the picture of the journals, whatever it held. Order: 1, 2, 6.
+pub fn rebuild(journals: &[u8], rows: &mut [u8]) -> u8 {
+    if wrong_sizes(journals, rows) {
+        return 1;
+    }
+    if first_wrong_journal_record(journals).is_some() {
+        return 2;
+    }
+    let Some(drawn) = picture(&journals_of(journals)) else {
+        return 6;
+    };
     rows.copy_from_slice(&drawn);
     0
 }

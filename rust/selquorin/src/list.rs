@@ -54,17 +54,17 @@ impl<'a> Words<'a> {
     /// # use selquorin::{Books, Error, Step};
     /// # fn main() -> Result<(), Error> {
     /// let mut books = Books::new();
-    /// for journal in [[1, 2, 1], [1, 1, 2]] {
+    /// for journal in [[4, 9], [9, 4]] {
     ///     books.open()?;
     ///     for code in journal {
     ///         books.append(Step::new(code)?)?;
     ///     }
     /// }
     /// // The words that one journal holds and the other doesn't.
-    /// let words = books.list(1, 3)?.with_counts();
+    /// let words = books.list(1, 2)?.with_counts();
     /// let alone = words.filter(|(_, count)| *count == 1);
     /// let alone: Vec<String> = alone.map(|(word, _)| word.to_string()).collect();
-    /// assert_eq!(alone, ["1 1 2", "1 2 1", "2 1"]);
+    /// assert_eq!(alone, ["4 9", "9 4"]);
     /// # Ok(())
     /// # }
     /// ```
@@ -154,3 +154,23 @@ impl Iterator for WordsWithCounts<'_> {
 }
 
 impl FusedIterator for WordsWithCounts<'_> {}
+
+#[cfg(test)]
+mod tests {
+    use crate::{Books, Step};
+
+    #[test]
+    fn words_are_shown_without_their_page() {
+        let mut books = Books::new();
+        books.open().unwrap();
+        books.append(Step::default()).unwrap();
+        books.append(Step::default()).unwrap();
+        let mut words = books.list_paged(1, 15, None, 2).unwrap();
+        words.next();
+        let first = "Words { quorum: 1, length: 15, fetched: 1, more: true, .. }";
+        assert_eq!(format!("{words:?}"), first);
+        let counted = words.with_counts();
+        let wanted = format!("WordsWithCounts {{ words: {first} }}");
+        assert_eq!(format!("{counted:?}"), wanted);
+    }
+}
