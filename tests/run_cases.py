@@ -185,6 +185,7 @@ def case(name):
     return stdin, ask, program_model.printed(stdin, ask)
 
 
+@lru_cache(maxsize=None)
 def part(name):
     """The cases of a part, what must be printed of each, and the part's line."""
     seed = kept.seed(name)

@@ -28,8 +28,8 @@ pub enum Command {
 
 /// Reads the program's arguments. Help and version go before all else, wherever they stand.
 pub fn command(mut words: Vec<OsString>) -> Result<Command, Failure> {
-    let asks = words.iter().take_while(|&word| word != "--");
-    if let Some(command) = asks.filter_map(|word| help_or_version(word)).next() {
+    let mut options = words.iter().take_while(|&word| word != "--");
+    if let Some(command) = options.find_map(|word| help_or_version(word)) {
         return Ok(command);
     }
     if words.is_empty() {

@@ -67,7 +67,8 @@ impl Failure {
 
     /// Says it on standard error. If that can't be written either, the status still tells.
     pub fn say(&self) {
-        let _ = writeln!(io::stderr(), "selquorin: {self}");
+        let text = format!("selquorin: {self}\n");
+        let _ = io::stderr().write_all(text.as_bytes());
     }
 }
 

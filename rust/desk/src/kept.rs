@@ -18,23 +18,17 @@ pub fn books(source: &Source) -> Result<Books, Failure> {
 }
 
 fn wrong_size(source: &Source, error: Error, bytes: usize) -> Failure {
-    // Of a longer one no more was read.
-    let has = if bytes < KEPT {
-        bytes.to_string()
-    } else {
-        "more".to_string()
-    };
+    // A longer one wasn't read to its end.
+    let has = Some(bytes).filter(|&bytes| bytes < KEPT);
+    let has = has.map_or("more".to_string(), |bytes| bytes.to_string());
     let why = format!("a file of books has {KEPT} bytes, and this one has {has}");
     Failure::refused_as(Part::Books(source.clone()), error, why)
 }
 
 /// What says that books are refused, and in the words of the check why.
 pub fn refused(source: &Source, books: &Books, error: Error) -> Failure {
-    Failure::refused_as(
-        Part::Books(source.clone()),
-        error,
-        books.check().to_string(),
-    )
+    let why = books.check().to_string();
+    Failure::refused_as(Part::Books(source.clone()), error, why)
 }
 
 /// Loads entries and keeps their books. A refused entry leaves the file as it was.
@@ -47,9 +41,8 @@ pub fn load(source: &Source, file: &Path) -> Result<(), Failure> {
 pub fn rebuild(file: &Path) -> Result<(), Failure> {
     let source = Source::File(file.to_path_buf());
     let mut books = books(&source)?;
-    books
-        .rebuild()
-        .map_err(|error| refused(&source, &books, error))?;
+    let rebuilt = books.rebuild();
+    rebuilt.map_err(|error| refused(&source, &books, error))?;
     keep(&books, file)
 }
 

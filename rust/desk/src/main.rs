@@ -1,4 +1,5 @@
-//! The program for the desk: what the books answer, for the shell and for jobs that run by the clock.
+//! The program for the desk: what the books answer, for the shell and for jobs that run by the
+//! clock.
 
 #![forbid(unsafe_code)]
 

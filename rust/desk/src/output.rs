@@ -16,8 +16,8 @@ pub struct Output {
 }
 
 impl Output {
-    /// Standard output is written as a file: the standard library's own takes one that can't be written for one that
-    /// takes everything.
+    /// Standard output is written as a file: the standard library's own takes one that can't be
+    /// written for one that takes everything.
     pub fn open() -> Result<Output, Failure> {
         let end = io::stdout().as_fd().try_clone_to_owned();
         Ok(Output {
@@ -58,7 +58,8 @@ pub fn print(text: impl fmt::Display) -> Result<(), Failure> {
     output.close()
 }
 
-/// Prints a line beside how a run ended. Where it can't be printed, what the run failed by is said all the same.
+/// Prints a line that tells how a run ended. Where it can't be printed, what the run failed by is
+/// said all the same.
 pub fn print_beside(line: impl fmt::Display, ended: Result<(), Failure>) -> Result<(), Failure> {
     let printed = print(line);
     if let (Err(_), Err(failure)) = (&printed, &ended) {

@@ -1,5 +1,6 @@
-//! A file replaced whole or not at all: the new one is written beside it, synced, and takes its name; then the folder is
-//! synced. Whenever it is broken off, the old bytes stand there or the new ones.
+//! A file replaced whole or not at all: the new one is written beside it, synced, and takes its
+//! name; then the folder is synced. Whenever it is broken off, the old bytes stand there or the new
+//! ones.
 
 use std::fs::{self, File, Metadata, OpenOptions, Permissions};
 use std::io::{self, ErrorKind, Write};
@@ -21,11 +22,8 @@ pub fn replace(path: &Path, bytes: &[u8]) -> io::Result<()> {
     beside.file.sync_all()?;
     beside.rename(&path)?;
     folder.sync_all().map_err(|error| {
-        let kind = error.kind();
-        io::Error::new(
-            kind,
-            format!("it is replaced, but its folder isn't synced: {error}"),
-        )
+        let why = format!("it is replaced, but its folder isn't synced: {error}");
+        io::Error::new(error.kind(), why)
     })
 }
 
@@ -36,16 +34,14 @@ fn old_file(path: &Path) -> io::Result<Option<Metadata>> {
         old => old?,
     };
     if !old.is_file() {
-        return Err(io::Error::new(
-            ErrorKind::InvalidInput,
-            "not a file of its own bytes",
-        ));
+        let why = "not a regular file";
+        return Err(io::Error::new(ErrorKind::InvalidInput, why));
     }
     OpenOptions::new().write(true).open(path)?;
     Ok(Some(old))
 }
 
-/// The file that a path leads to, there or not. Links that lead nowhere but to each other were an error before.
+/// The file that a path leads to, there or not. Links that lead to each other were an error before.
 fn behind_links(path: &Path) -> PathBuf {
     let mut path = path.to_path_buf();
     while let Ok(to) = fs::read_link(&path) {
@@ -61,7 +57,7 @@ fn folder_of(path: &Path) -> &Path {
     }
 }
 
-/// Gives the new file what the old one allows, and its owner and group where the system permits that.
+/// Gives the new file the old one's permissions, and its owner and group where the system lets it.
 fn be_like(file: &File, old: &Metadata) -> io::Result<()> {
     let _ = fchown(file, Some(old.uid()), Some(old.gid()));
     file.set_permissions(Permissions::from_mode(old.mode() & 0o7777))
@@ -75,7 +71,8 @@ struct Beside {
 }
 
 impl Beside {
-    /// Makes it under the first name that is free. One that takes the place of another is nobody else's until it is like that one.
+    /// Makes it under the first name that is free. Where it takes another's place, nobody else may
+    /// read it before it has that one's permissions.
     fn make(folder: &Path, old: Option<&Metadata>) -> io::Result<Beside> {
         let mode = if old.is_some() { 0o600 } else { 0o666 };
         let mut options = OpenOptions::new();
@@ -86,11 +83,8 @@ impl Beside {
             match options.open(&path) {
                 Err(error) if error.kind() == ErrorKind::AlreadyExists => number += 1,
                 made => {
-                    return made.map(|file| Beside {
-                        path,
-                        file,
-                        named: false,
-                    });
+                    let (file, named) = (made?, false);
+                    return Ok(Beside { path, file, named });
                 }
             }
         }

@@ -34,7 +34,8 @@ impl Source {
         Ok(bytes)
     }
 
-    /// Standard input is read as a file: the standard library's own takes one that can't be read for an empty one.
+    /// Standard input is read as a file: the standard library's own takes one that can't be read
+    /// for an empty one.
     fn open(&self) -> io::Result<File> {
         match self {
             Source::StandardInput => Ok(File::from(io::stdin().as_fd().try_clone_to_owned()?)),

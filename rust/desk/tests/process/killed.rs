@@ -22,7 +22,8 @@ fn without_rows() -> Vec<u8> {
     bytes
 }
 
-/// The process dies within its write: part of the new books is written, and the old ones stand there.
+/// The process dies within its write: part of the new books is written, and the old ones stand
+/// there.
 #[test]
 fn killed_in_the_middle_of_the_write() {
     for word in WRITING {

@@ -4,7 +4,8 @@ use crate::folder::{entries, kept, Folder, ONE, TWO};
 use crate::ran::{command, run, Ran};
 use plain::{journal_book, picture, JOURNAL_BOOK, ROW_BOOK};
 
-/// Entries that are refused at their last one: the number, how many are taken before it, and the entries.
+/// Entries that are refused at their last one: the number, how many are taken before it, and the
+/// entries.
 fn refused_entries() -> Vec<(u8, usize, Vec<u8>)> {
     let full: Vec<&[u8]> = vec![&[0; 200], &[1; 200], &[2; 200], &[3; 200], &[4; 199]];
     let sixteen: Vec<&[u8]> = vec![&[7]; 16];

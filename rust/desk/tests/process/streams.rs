@@ -63,7 +63,8 @@ fn a_refusal_is_said_though_it_cannot_be_printed() {
     }
 }
 
-/// The reader has left before the program has anything to print: that waits for the end of its input.
+/// The reader has left before the program has anything to print, which waits for the end of its
+/// input.
 #[test]
 fn a_closed_pipe() {
     let folder = folder("a_closed_pipe");
