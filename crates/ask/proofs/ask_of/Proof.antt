@@ -1,10 +1,10 @@
--- `feed::ask::ask_of` meets its contract: each return is a case of the ask (`AskCases.antt`). Assumes nothing.
+-- `ask::ask_of` meets its contract: each return is a case of the ask (`AskCases.antt`). Assumes nothing.
 use mathlib.Core.Path.{sym}
 use mathlib.Core.Logic.{⊎-elim}
 use borrow.Author.Tests.{ltb-true, ltb-false}
-use Rattle.feed.proofs.AskCases.{too-long, quorum-low, quorum-high, asked}
-use Rattle.feed.proofs.ask.ask_of.Statement.{statement}
-use Rattle.feed.proofs.ask.ask_of.Tie as tie
+use Rattle.ask.proofs.AskCases.{too-long, quorum-low, quorum-high, asked}
+use Rattle.ask.proofs.ask_of.Statement.{statement}
+use Rattle.ask.proofs.ask_of.Tie as tie
 
 returns : tie.Need-returns
 returns c = sym (too-long _ _ _ (c .if1 .taken))

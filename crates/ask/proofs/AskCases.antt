@@ -6,7 +6,7 @@ use mathlib.Core.List.{List, [], _∷_}
 use lib.ListN.{length, getD, take}
 use borrow.Author.Tests.{eq-eqb, ne-eqb, lt-ltb, le-ltb}
 use Rattle.books.specs.Numbers.{done, wrongQuorum, wrongLength, wrongAsk}
-use Rattle.feed.specs.Ask.{defaultLength, answer, askOf, askCall}
+use Rattle.ask.specs.Ask.{defaultLength, answer, askOf, askCall}
 
 module _ (k quorum limit : ℕ) where
   pub too-long : 15 < limit → askOf k quorum limit ≡ answer wrongLength quorum limit

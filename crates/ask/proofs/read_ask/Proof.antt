@@ -1,11 +1,11 @@
--- `feed::ask::read_ask` meets its contract: a file of no byte, of two or of any other size is a case of the ask's call (`AskCases.antt`), and a byte fits.
+-- `ask::read_ask` meets its contract: a file of no byte, of two or of any other size is a case of the ask's call (`AskCases.antt`), and a byte fits.
 -- Assumes nothing.
 use mathlib.Core.Path.{sym, _∙_}
-use Rattle.feed.proofs.AskCases.{empty-file, two-bytes, wrong-file}
+use Rattle.ask.proofs.AskCases.{empty-file, two-bytes, wrong-file}
 use borrow.Author.Needs.{needs}
 use native.Mathlib.Omega.{arith}
-use Rattle.feed.proofs.ask.read_ask.Statement.{statement}
-use Rattle.feed.proofs.ask.read_ask.Tie as tie
+use Rattle.ask.proofs.read_ask.Statement.{statement}
+use Rattle.ask.proofs.read_ask.Tie as tie
 
 ask-of-requires : tie.Need-ask-of-requires
 ask-of-requires c κs = search needs
@@ -31,7 +31,9 @@ ask-of-requires-2 : tie.Need-ask-of-requires-2
 ask-of-requires-2 c κs = search needs
 
 returns-2 : tie.Need-returns-2
-returns-2 c = c .ask-of2 .ensures ∙ sym (two-bytes _ _ (c .before .before .before .if2 .taken))
+returns-2 c =
+    let a = c .before .before .before .before .before .before .args in
+    c .ask-of2 .ensures ∙ sym (two-bytes (a .k) (a .file .now) (omega arith))
 
 returns-3 : tie.Need-returns-3
 returns-3 c = sym (wrong-file _ _ (c .before .if1 .left) (c .if2 .left))

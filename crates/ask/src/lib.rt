@@ -6,7 +6,7 @@ use books::number::WRONG_LENGTH;
 use books::number::WRONG_QUORUM;
 use records::LONGEST_WORD;
 ghost use mathlib.Core.Path.{_≡_};
-ghost use Rattle.feed.specs.Ask.{askOf, askCall};
+ghost use Rattle.ask.specs.Ask.{askOf, askCall};
 
 // The length where the file is empty or missing.
 const DEFAULT_LENGTH: usize = 8;

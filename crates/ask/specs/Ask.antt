@@ -5,7 +5,7 @@ use mathlib.Core.List.{List, [], _∷_}
 use lib.ListN.{length, getD}
 use lib.Dec.{eqb, ltb}
 use Rattle.records.specs.Sizes.{longestWord}
-use Rattle.feed.specs.declared.ask.Ask.{Ask}
+use Rattle.ask.specs.declared.Ask.{Ask}
 use Rattle.books.specs.Numbers.{Refusal, first, wrongQuorum, wrongLength, wrongAsk, unless}
 
 -- Empty or missing: quorum k, length 8.
