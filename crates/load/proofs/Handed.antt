@@ -20,7 +20,7 @@ use Rattle.ask.specs.declared.Ask.{Ask}
 use Rattle.feed.proofs.FeedMeans.{loaded}
 use Rattle.text.specs.Text.{firstLine, wordLine, lastLine}
 use Rattle.list.specs.ListCall.{Asked, asked, wholeList}
-use Rattle.list.specs.Next.{tableOf}
+use Rattle.next_word.specs.Next.{tableOf}
 use Rattle.list.specs.Parts.{wordsIn, part, joined, Fetched}
 use Rattle.list.proofs.Complete.{list-complete}
 use Rattle.list.proofs.Parts.{parts}

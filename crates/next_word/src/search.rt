@@ -8,8 +8,8 @@ ghost use Prim.Native.Nat.{_≤_};
 ghost use lib.ListN.{take};
 ghost use lib.Dec.{leb};
 ghost use Rattle.words.specs.Listing.{listOf, past, Falling};
-ghost use Rattle.list.specs.Next.{fromOn, tableOf};
-ghost use Rattle.list.specs.Moving.{stepsIn, moved, Fit};
+ghost use Rattle.next_word.specs.Next.{fromOn, tableOf};
+ghost use Rattle.next_word.specs.Moving.{stepsIn, moved, Fit};
 ghost use Rattle.records.specs.Sizes.{longestWord};
 
 // Whether a word's count reaches the quorum.
@@ -24,7 +24,7 @@ fn reaches(rows: &[u8], quorum: usize, w: Word) -> bool
 }
 
 // The first word of the list from w on: a word below the quorum is left for the next one that is no extension of it.
-pub(crate) fn first_from(rows: &[u8], quorum: usize, limit: usize, w: Word) -> Moved
+pub fn first_from(rows: &[u8], quorum: usize, limit: usize, w: Word) -> Moved
     requires { ⌜ (limit ≤ longestWord) × Fit limit w × Falling (tableOf (now rows)) ⌝ }
     ensures to { λ r. ⌜ moved r ≡ take 1 (fromOn (stepsIn w) (listOf (tableOf (now (rows .entry))) quorum limit)) ⌝ }
     ensures fit { λ r. ⌜ Fit limit (r .word) ⌝ }
@@ -49,7 +49,7 @@ pub(crate) fn first_from(rows: &[u8], quorum: usize, limit: usize, w: Word) -> M
 }
 
 // The first word of the list after w, which need not be in the list itself.
-pub(crate) fn next_word(rows: &[u8], quorum: usize, limit: usize, w: Word) -> Moved
+pub fn next_word(rows: &[u8], quorum: usize, limit: usize, w: Word) -> Moved
     requires { ⌜ (limit ≤ longestWord) × Fit limit w × Falling (tableOf (now rows)) ⌝ }
     ensures to { λ r. ⌜ moved r ≡ take 1 (past (stepsIn w) (listOf (tableOf (now (rows .entry))) quorum limit)) ⌝ }
     ensures fit { λ r. ⌜ Fit limit (r .word) ⌝ }

@@ -1,4 +1,4 @@
--- `list::search::first_from` meets its contract. The invariant: the list from w on is the list from where the search stands on, at v or nowhere, and v
+-- `next_word::search::first_from` meets its contract. The invariant: the list from w on is the list from where the search stands on, at v or nowhere, and v
 -- fits. A word that reaches the quorum is the first from itself on; one below it is skipped with its extensions.
 -- The measure is by how much the steps of v can still be raised, and one more; nowhere it is 0. Assumes nothing.
 use Prim.Native.Nat.{ℕ, suc, _<_}
@@ -11,11 +11,11 @@ use lib.Dec.{leb}
 use borrow.Author.Needs.{needs}
 use borrow.Author.Tests.{leb-true, leb-false}
 use Rattle.words.specs.Listing.{listOf}
-use Rattle.list.specs.Moving.{stepsIn, moved, Fit}
-use Rattle.list.specs.Next.{climbed, fromOn, fromThere, tableOf}
-use Rattle.list.proofs.Climb.{slack, climbed-less, climb-skips, here}
-use Rattle.list.proofs.search.first_from.Statement.{statement}
-use Rattle.list.proofs.search.first_from.Tie as tie
+use Rattle.next_word.specs.Moving.{stepsIn, moved, Fit}
+use Rattle.next_word.specs.Next.{climbed, fromOn, fromThere, tableOf}
+use Rattle.next_word.proofs.Climb.{slack, climbed-less, climb-skips, here}
+use Rattle.next_word.proofs.search.first_from.Statement.{statement}
+use Rattle.next_word.proofs.search.first_from.Tie as tie
 
 -- how far the search can still go from where it stands
 abbrev toGo : List (List ℕ) → ℕ

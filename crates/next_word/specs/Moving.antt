@@ -1,13 +1,11 @@
 -- What the code's words stand for. Assumes nothing.
 use Prim.Native.Nat.{ℕ, _≤_}
-use mathlib.Core.Path.{_≡_}
-use mathlib.Core.Bool.{Bool, true, cond}
+use mathlib.Core.Bool.{cond}
 use mathlib.Core.List.{List, [], _∷_}
-use lib.ListN.{length, getD, take}
+use lib.ListN.{take}
 use Rattle.words.specs.Words.{IsWord}
-use Rattle.records.specs.WordRecord.{wordForm}
-use Rattle.list.specs.declared.word.Word.{Word}
-use Rattle.list.specs.declared.word.Moved.{Moved}
+use Rattle.next_word.specs.declared.word.Word.{Word}
+use Rattle.next_word.specs.declared.word.Moved.{Moved}
 
 -- the word by value as a row of steps
 abbrev pub stepsIn : Word → List ℕ
@@ -21,7 +19,3 @@ moved m = cond (m .found) (stepsIn (m .word) ∷ []) []
 pub record Fit (n : ℕ) (w : Word) : Type 0 where
   pub short : w .len ≤ n
   pub codes : IsWord (stepsIn w)
-
--- for "after", the word record is one, of right form and of at most n steps
-abbrev pub WordIfAfter : Bool → ℕ → List ℕ → Type 0
-WordIfAfter after n r = after ≡ true → (length r ≡ 16) × (wordForm r ≡ true) × (getD r 0 0 ≤ n)

@@ -9,11 +9,11 @@ use mathlib.Core.List.{List, [], _∷_, _++_, List·Memᴰ, List·Memᴰ·head, 
 use lib.ListN.{length, take}
 use lib.Dec.{eqb, ltb}
 use borrow.Author.Tests.{ltb-true, ltb-false, lt-ltb, le-ltb, eqb-true, eq-eqb, ne-eqb}
-use Rattle.list.specs.Next.{onto, climbed, fromOn, fromThere}
+use Rattle.next_word.specs.Next.{onto, climbed, fromOn, fromThere}
 use Rattle.words.specs.Listing.{listOf, Shared, Falling, past}
 use Rattle.words.specs.Order.{before}
 use Rattle.words.specs.Words.{IsWord}
-use Rattle.list.proofs.FromOn.{beforeThere, before-empty, from-same, past-from, from-here}
+use Rattle.next_word.proofs.FromOn.{beforeThere, before-empty, from-same, past-from, from-here}
 use Rattle.words.proofs.Dictionary.{list-ascending, list-members}
 use Rattle.words.proofs.Test.{test}
 

@@ -1,4 +1,4 @@
--- `list::search::next_word` meets its contract. After a word that can be extended the list goes on from its first extension; after one of all steps, from
+-- `next_word::search::next_word` meets its contract. After a word that can be extended the list goes on from its first extension; after one of all steps, from
 -- where it climbs to, and ends there if that is nowhere. Assumes nothing.
 use Prim.Native.Nat.{ℕ}
 use native.Mathlib.Omega.{arith}
@@ -8,13 +8,13 @@ use mathlib.Core.List.{List}
 use lib.ListN.{length, take}
 use borrow.Author.Needs.{needs}
 use Rattle.words.specs.Listing.{listOf, past}
-use Rattle.list.specs.Moving.{stepsIn}
-use Rattle.list.specs.Next.{fromOn, tableOf}
+use Rattle.next_word.specs.Moving.{stepsIn}
+use Rattle.next_word.specs.Next.{fromOn, tableOf}
 use Rattle.words.proofs.Members.{snoc-steps}
-use Rattle.list.proofs.Climb.{extend-after}
-use Rattle.list.proofs.WordMoves.{climbed-past}
-use Rattle.list.proofs.search.next_word.Statement.{statement}
-use Rattle.list.proofs.search.next_word.Tie as tie
+use Rattle.next_word.proofs.Climb.{extend-after}
+use Rattle.next_word.proofs.WordMoves.{climbed-past}
+use Rattle.next_word.proofs.search.next_word.Statement.{statement}
+use Rattle.next_word.proofs.search.next_word.Tie as tie
 
 extend-requires : tie.Need-extend-requires
 extend-requires c κs = search needs

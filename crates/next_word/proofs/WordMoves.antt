@@ -9,12 +9,12 @@ use lib.ListN.{length, take, getD, set}
 use lib.Seq.{length-take-le, take-suc, take-suc-set}
 use Rattle.words.specs.Listing.{listOf, past, Falling}
 use Rattle.words.specs.Words.{IsWord}
-use Rattle.list.specs.Moving.{stepsIn, moved}
-use Rattle.list.specs.Next.{climbed, fromThere}
-use Rattle.list.specs.declared.word.Moved.{Moved}
-use Rattle.list.specs.declared.word.Word.{Word}
+use Rattle.next_word.specs.Moving.{stepsIn, moved}
+use Rattle.next_word.specs.Next.{climbed, fromThere}
+use Rattle.next_word.specs.declared.word.Moved.{Moved}
+use Rattle.next_word.specs.declared.word.Word.{Word}
 use Rattle.words.proofs.Members.{steps-snoc, snoc-steps}
-use Rattle.list.proofs.Climb.{climbed-raise, climbed-shorten, climb-after}
+use Rattle.next_word.proofs.Climb.{climbed-raise, climbed-shorten, climb-after}
 
 -- a store at the last step
 pub last-set : (l : List ℕ) (n s : ℕ) → 0 < n → n ≤ length l → take n (set l (n - 1) s) ≡ take (n - 1) l ++ (s ∷ [])

@@ -1,4 +1,4 @@
--- `list::search::reaches` meets its contract: the part of the steps that is lent is the word, and the table count answers its count. Assumes nothing.
+-- `next_word::search::reaches` meets its contract: the part of the steps that is lent is the word, and the table count answers its count. Assumes nothing.
 use native.Mathlib.Omega.{arith}
 use mathlib.Core.Path.{_≡_, sym, ap}
 use lib.ListN.{length}
@@ -6,9 +6,9 @@ use lib.Seq.{length-take-le}
 use lib.Dec.{leb}
 use borrow.Author.Needs.{needs}
 use Rattle.books.specs.declared.Counted.{Counted}
-use Rattle.list.specs.Next.{tableOf}
-use Rattle.list.proofs.search.reaches.Statement.{statement}
-use Rattle.list.proofs.search.reaches.Tie as tie
+use Rattle.next_word.specs.Next.{tableOf}
+use Rattle.next_word.proofs.search.reaches.Statement.{statement}
+use Rattle.next_word.proofs.search.reaches.Tie as tie
 
 array-share-prefix-steps : tie.Need-array-share-prefix-steps
 array-share-prefix-steps c =

@@ -1,12 +1,12 @@
--- `list::word::Word::extend` meets its contract: one more step is taken of the steps, and the one stored there is 0. Assumes nothing.
+-- `next_word::word::Word::extend` meets its contract: one more step is taken of the steps, and the one stored there is 0. Assumes nothing.
 use native.Mathlib.Numerals.{add-one}
 use native.Mathlib.Omega.{arith}
 use mathlib.Core.Path.{_≡_, refl}
 use lib.ListN.{length}
 use lib.Seq.{take-suc-set}
 use borrow.Author.Needs.{needs}
-use Rattle.list.proofs.word.Word.extend.Statement.{statement}
-use Rattle.list.proofs.word.Word.extend.Tie as tie
+use Rattle.next_word.proofs.word.Word.extend.Statement.{statement}
+use Rattle.next_word.proofs.word.Word.extend.Tie as tie
 
 array-write-steps : tie.Need-array-write-steps
 array-write-steps c = search needs

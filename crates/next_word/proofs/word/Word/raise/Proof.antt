@@ -1,11 +1,11 @@
--- `list::word::Word::raise` meets its contract: the store changes the last step that is taken alone. Assumes nothing.
+-- `next_word::word::Word::raise` meets its contract: the store changes the last step that is taken alone. Assumes nothing.
 use native.Mathlib.Omega.{arith}
 use mathlib.Core.Path.{_≡_, refl}
 use lib.ListN.{length}
 use borrow.Author.Needs.{needs}
-use Rattle.list.proofs.WordMoves.{last-set}
-use Rattle.list.proofs.word.Word.raise.Statement.{statement}
-use Rattle.list.proofs.word.Word.raise.Tie as tie
+use Rattle.next_word.proofs.WordMoves.{last-set}
+use Rattle.next_word.proofs.word.Word.raise.Statement.{statement}
+use Rattle.next_word.proofs.word.Word.raise.Tie as tie
 
 sub-steps : tie.Need-sub-steps
 sub-steps c = search needs

@@ -1,4 +1,4 @@
--- `list::word::climb` meets its contract. The invariant: v has an array of 15 steps, w climbs to where v climbs, and v is a word of at most as many
+-- `next_word::word::climb` meets its contract. The invariant: v has an array of 15 steps, w climbs to where v climbs, and v is a word of at most as many
 -- steps. A last step that can be raised ends the search, another is dropped, and the empty word climbs nowhere.
 -- The measure is the number of v's steps. Assumes nothing.
 use Prim.Native.Nat.{ℕ, _-_, _<_}
@@ -7,11 +7,11 @@ use mathlib.Core.Path.{_≡_, refl, sym, ap, _∙_}
 use mathlib.Core.List.{List, [], _∷_}
 use lib.ListN.{length, take, getD}
 use borrow.Author.Needs.{needs}
-use Rattle.list.specs.Moving.{stepsIn, Fit}
-use Rattle.list.specs.Next.{climbed}
-use Rattle.list.proofs.WordMoves.{raised, shortened, front-word, raised-word}
-use Rattle.list.proofs.word.climb.Statement.{statement}
-use Rattle.list.proofs.word.climb.Tie as tie
+use Rattle.next_word.specs.Moving.{stepsIn, Fit}
+use Rattle.next_word.specs.Next.{climbed}
+use Rattle.next_word.proofs.WordMoves.{raised, shortened, front-word, raised-word}
+use Rattle.next_word.proofs.word.climb.Statement.{statement}
+use Rattle.next_word.proofs.word.climb.Tie as tie
 
 abbrev Inv-loop : tie.InvT-loop
 Inv-loop v₀ v = (length (v .steps) ≡ 15) × (climbed (stepsIn v₀) ≡ climbed (stepsIn v)) × Fit (v₀ .len) v

@@ -6,7 +6,7 @@ use mathlib.Core.Logic.{_⊎_, inl, inr}
 use mathlib.Core.Bool.{Bool, true, false, cond, not, false≢true}
 use mathlib.Core.List.{List, [], _∷_, _++_, append-assoc, List·Memᴰ, List·Memᴰ·head, List·Memᴰ·tail, List·Memᴰ·not-nil, List·Memᴰ·cases-cons}
 use lib.ListN.{take, drop, take-append-drop}
-use Rattle.list.specs.Next.{fromOn, fromThere}
+use Rattle.next_word.specs.Next.{fromOn, fromThere}
 use Rattle.words.specs.Listing.{past}
 use Rattle.words.specs.Order.{before, Ascending}
 use Rattle.words.proofs.Order.{before-irrefl, before-trans, before-asym, before-total, unique}

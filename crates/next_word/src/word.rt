@@ -6,8 +6,8 @@ ghost use mathlib.Core.Path.{_≡_};
 ghost use mathlib.Core.List.{[], _∷_, _++_};
 ghost use Prim.Native.Nat.{_+_, _-_, _≤_, _<_};
 ghost use lib.ListN.{take, getD};
-ghost use Rattle.list.specs.Next.{climbed};
-ghost use Rattle.list.specs.Moving.{stepsIn, moved, Fit};
+ghost use Rattle.next_word.specs.Next.{climbed};
+ghost use Rattle.next_word.specs.Moving.{stepsIn, moved, Fit};
 ghost use Rattle.records.specs.Sizes.{longestWord};
 ghost use Rattle.words.specs.Limits.{stepCodes};
 
@@ -15,20 +15,20 @@ ghost use Rattle.words.specs.Limits.{stepCodes};
 const HIGHEST_STEP: u8 = STEP_CODES - 1;
 
 // A word of up to 15 steps: those before `len` count.
-pub(crate) struct Word {
+pub struct Word {
     pub steps: [u8; LONGEST_WORD],
     pub len: usize,
 }
 
 // Where a word moved to, if anywhere.
-pub(crate) struct Moved {
+pub struct Moved {
     pub found: bool,
     pub word: Word,
 }
 
 impl Word {
     // The empty word.
-    pub(crate) fn empty() -> Word
+    pub fn empty() -> Word
         ensures { λ r. ⌜ (r .len ≡ 0) × (stepsIn r ≡ []) ⌝ }
     {
         Word {
