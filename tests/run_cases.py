@@ -58,10 +58,21 @@ def is_left(folder, ask):
     return True
 
 
-def hold_said(said, failed):
-    """Holds standard error to the name of what failed, or to nothing."""
-    if not failed and said or failed and (not said.startswith(failed + b": ") or said.count(b"\n") != 1 or said[-1:] != b"\n"):
-        raise Wrong(f"says {said[:60]!r} on standard error, and {failed or 'nothing'!r} failed")
+class Load:
+    """The loading program: it finds the ask in its folder, and names on standard error what failed, or says nothing."""
+    sees_closed = True
+
+    def __init__(self, path):
+        self.words = built.words(path)
+
+    def command(self, ask):
+        return self.words
+
+    def hold(self, ended, failed, printed):
+        """Holds how a run ended to what failed, if anything, and to what was printed."""
+        said, _ = ended
+        if not failed and said or failed and (not said.startswith(failed + b": ") or said.count(b"\n") != 1 or said[-1:] != b"\n"):
+            raise Wrong(f"says {said[:60]!r} on standard error, and {failed or 'nothing'!r} failed")
 
 
 def same(seen, due):
@@ -108,14 +119,14 @@ def wait(child, beside):
 
 def run(program, ask, stdin, stdout, drain=None, pause=0.0, before=None, signals=()):
     """Runs the program. Standard input is an end, or pieces that are written into a pipe; output is an end, which drain reads
-    beside it. Both ends are closed here once the program has them. Gives back what it says on standard error."""
+    beside it. Both ends are closed here once the program has them. Gives back what it says on standard error, and its status."""
     work = [drain] if drain else []
     if isinstance(stdin, list):
         pieces, (stdin, mine) = stdin, ends(os.pipe())
         work.append(lambda: write_end(mine, pieces, pause))
     with tempfile.TemporaryDirectory() as folder:
         put_ask(os.path.join(folder, "ask.bin"), ask)
-        child = subprocess.Popen(program, cwd=folder, stdin=stdin, stdout=stdout, stderr=subprocess.PIPE, preexec_fn=before)
+        child = subprocess.Popen(program.command(ask), cwd=folder, stdin=stdin, stdout=stdout, stderr=subprocess.PIPE, preexec_fn=before)
         for end in stdin, stdout:
             os.close(end)
         beside = [threading.Thread(target=each, daemon=True) for each in work]
@@ -127,7 +138,7 @@ def run(program, ask, stdin, stdout, drain=None, pause=0.0, before=None, signals
         if not is_left(folder, ask):
             raise Wrong("changed the folder")
         with child.stderr:
-            return child.stderr.read()
+            return child.stderr.read(), child.returncode
 
 
 def text(program, ask, stdin, pause=0.0, before=None, failed=b""):
@@ -139,7 +150,8 @@ def text(program, ask, stdin, pause=0.0, before=None, failed=b""):
         with os.fdopen(mine, "rb") as file:
             out.append(file.read())
 
-    hold_said(run(program, ask, stdin, its, drain, pause, before), failed)
+    ended = run(program, ask, stdin, its, drain, pause, before)
+    program.hold(ended, failed, out[0])
     return out[0]
 
 
@@ -173,6 +185,7 @@ def case(name):
     return stdin, ask, program_model.printed(stdin, ask)
 
 
+@lru_cache(maxsize=None)
 def part(name):
     """The cases of a part, what must be printed of each, and the part's line."""
     seed = kept.seed(name)
@@ -226,7 +239,8 @@ def failing_input(program):
     stdin, ask, _ = case("example")
     here = os.path.dirname(os.path.abspath(__file__))
     yield "input is a directory", lambda: same(text(program, ask, os.open(here, os.O_RDONLY), failed=INPUT), b"")
-    yield "input is closed", lambda: same(text(program, ask, null(), before=lambda: os.close(0), failed=INPUT), b"")
+    if program.sees_closed:
+        yield "input is closed", lambda: same(text(program, ask, null(), before=lambda: os.close(0), failed=INPUT), b"")
     yield "input is open for writing only", lambda: same(text(program, ask, null(os.O_WRONLY), failed=INPUT), b"")
     yield "input fails behind good entries", lambda: same(text(program, ask, failing_behind(stdin), failed=INPUT), b"")
     yield "ask is a directory", lambda: same(text(program, DIRECTORY, [stdin], failed=ASK), b"")
@@ -243,9 +257,10 @@ def up_to(program, name, most):
         resource.setrlimit(resource.RLIMIT_FSIZE, (most, most))
 
     with tempfile.TemporaryFile() as file:
-        hold_said(run(program, ask, [stdin], os.dup(file.fileno()), before=before), OUTPUT if most < len(due) else b"")
+        ended = run(program, ask, [stdin], os.dup(file.fileno()), before=before)
         file.seek(0)
         seen = file.read()
+    program.hold(ended, OUTPUT if most < len(due) else b"", seen)
     same(seen, due if most >= len(due) else due[:len(seen)])
 
 
@@ -261,9 +276,9 @@ def no_large_writes(program, name):
             while piece := mine.recv(1 << 20):
                 out.append(piece)
 
-    said = run(program, ask, [stdin], its.detach(), drain)
+    ended = run(program, ask, [stdin], its.detach(), drain)
     seen = b"".join(out)
-    hold_said(said, OUTPUT if seen != due else b"")
+    program.hold(ended, OUTPUT if seen != due else b"", seen)
     if seen != due and (b"end" in seen or not due.startswith(seen)):
         raise Wrong(f"a write failed, and it goes on: {seen[-60:]!r}")
 
@@ -286,14 +301,15 @@ def reader_leaves(program, name, ignored):
 def to_end(program, name, stdout, before=None):
     """Output that fails and that nobody can look at: it has to end and to say so."""
     stdin, ask, _ = case(name)
-    hold_said(run(program, ask, [stdin], stdout, before=before), OUTPUT)
+    program.hold(run(program, ask, [stdin], stdout, before=before), OUTPUT, b"")
 
 
 def failing_output(program):
     """Where a write fails, it ends without the last line."""
     for name in "example", "words_7099", "lone_byte", "ask_of_1":
         yield f"{name} to a full device", lambda: to_end(program, name, os.open("/dev/full", os.O_WRONLY))
-        yield f"{name} to a closed output", lambda: to_end(program, name, null(os.O_WRONLY), lambda: os.close(1))
+        if program.sees_closed:
+            yield f"{name} to a closed output", lambda: to_end(program, name, null(os.O_WRONLY), lambda: os.close(1))
         yield f"{name} to an output open for reading only", lambda: to_end(program, name, null())
         for ignored in False, True:
             yield f"{name}, the reader leaves, {ignored=}", lambda: reader_leaves(program, name, ignored)
@@ -304,9 +320,12 @@ def failing_output(program):
         yield f"{name} where large writes fail", lambda: no_large_writes(program, name)
 
 
-def main(program):
+EVERY = cases, pieces, failing_input, failing_output, large
+
+
+def main(called, program, every=EVERY):
     passed, failed, longest = 0, 0, (0.0, "none")
-    for runs in cases, pieces, failing_input, failing_output, large:
+    for runs in every:
         for name, do in runs(program):
             begun = time.monotonic()
             try:
@@ -317,7 +336,7 @@ def main(program):
                 print(f"{name}: {wrong}", flush=True)
             longest = max(longest, (time.monotonic() - begun, name))
     print(f"longest run: {longest[0]:.1f} s, {longest[1]}")
-    print(f"cases: {passed} passed, {failed} failed")
+    print(f"{called}: {passed} passed, {failed} failed")
     return 0 if failed == 0 and passed > 0 else 1
 
 
@@ -326,4 +345,4 @@ if __name__ == "__main__":
         sys.exit(__doc__)
     if sys.argv[1] == "--keep":
         sys.exit(kept.keep([part(name)[1] for name in ("cases named", "cases random")]))
-    sys.exit(main(built.words(sys.argv[1])))
+    sys.exit(main("cases", Load(sys.argv[1])))

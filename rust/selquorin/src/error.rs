@@ -1,4 +1,4 @@
-//! The numbers of document 01, as errors.
+//! The numbers of refusals, as errors.
 
 use std::fmt;
 
