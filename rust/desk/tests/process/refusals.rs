@@ -154,6 +154,7 @@ fn damaged_books() {
         folder.put("b", &bytes);
         books(&folder, &["check"]).is_refused(2, fault);
         books(&folder, &["count", "1"]).is_refused(2, "");
+        books(&folder, &["count", "16"]).is_refused(3, "");
         books(&folder, &["list", "--length", "16"]).is_refused(2, "refused 2 books\n");
         folder.has("b", &bytes);
     }
