@@ -18,13 +18,18 @@
  * Everything else is answered by the call: a wrong size and damaged bytes too have their number. No
  * call keeps a pointer, takes memory from the heap, or has any state of its own.
  *
- * Each call answers a number: 0 for "done", or why it was refused (selquorin_number). A refusal
- * writes nothing. Where more than one refusal holds, the one that is named first beside the call is
- * given. Calls with a further answer pack it into the same integer; the functions at the end of
- * this file take it apart.
+ * Each call answers a number: 0 for "done", or why it was refused (selquorin_number; in words:
+ * selquorin_message). A refusal writes nothing. Where more than one refusal holds, the one that is
+ * named first beside the call is given. Calls with a further answer pack it into the same integer;
+ * the functions at the end of this file take it apart.
  *
  * Steps have the codes 0 to 15, and a word is a row of them. It is in a journal when it is what is
- * left of it after some of its steps, or none, are struck out.
+ * left of it after some of its steps, or none, are struck out. Its place there is where it ends if
+ * each step is found as early as can be: the number of that step, from 1, and 0 for the empty word.
+ * A word that isn't in has lost its place. The row book has a row for each live state: a row of
+ * places, one in each journal, that some word has, and of which one at least isn't lost. An arc
+ * leads from a row by a step to the row of the words with that step more. The books are sound when
+ * both have their form and the row book has just the rows that the journals give.
  */
 #ifndef SELQUORIN_H
 #define SELQUORIN_H
@@ -35,6 +40,12 @@
 #ifdef __cplusplus
 extern "C" {
 #endif
+
+/* The version of this header and of the library. */
+#define SELQUORIN_VERSION "0.1.0"
+#define SELQUORIN_VERSION_MAJOR 0
+#define SELQUORIN_VERSION_MINOR 1
+#define SELQUORIN_VERSION_PATCH 0
 
 /* The bytes of a journal book: 16 records of 256. */
 #define SELQUORIN_JOURNAL_BOOK 4096
@@ -160,6 +171,27 @@ uint64_t selquorin_list(const uint8_t *journals, size_t journals_length, const u
  * Refusals: 1, 13.
  */
 uint8_t selquorin_row_record_number(const uint8_t *rows, size_t rows_length, size_t row);
+
+/* What a number says, in words; a number that no call answers has a text too. */
+static inline const char *selquorin_message(unsigned number) {
+    static const char *const messages[] = {
+        "done",
+        "wrong size of a book, the list's output or a word record",
+        "the books are damaged: check says where",
+        "a step's code is above 15",
+        "no journal is open that the step could be appended to",
+        "the last journal is full: it has 200 steps",
+        "no room: there would be more than 1,000 rows",
+        "no room: 16 journals are open already",
+        "the quorum is not between 1 and the number of journals",
+        "the list's length is above 15",
+        "the word is not well formed, or is longer than asked for",
+        "a journal entry is broken",
+        "the ask file has neither 0 nor 2 bytes",
+        "there is no such row: rows have the numbers 0 to 999",
+    };
+    return number < sizeof messages / sizeof messages[0] ? messages[number] : "unknown number";
+}
 
 /* The parts of what selquorin_table_count and selquorin_journal_count answer. */
 

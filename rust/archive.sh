@@ -1,5 +1,6 @@
 #!/usr/bin/env bash
-# Makes the static library where it is missing, or older than a source of it, and prints the folder that has it.
+# Makes the static library where it is missing, or older than a source of it, and prints the folder that has it. Beside it
+# stands selquorin.pc, for pkg-config, which finds the library in its own folder and the header in this repository.
 # The kit's archive is for x86-64. On another processor the same proved crates are compiled once more, for that one, so that
 # the Rust crates and the example in C can be run there too: the kit is told of a compiler that is its own but for the target.
 set -eu
@@ -9,12 +10,20 @@ machine=$(uname -m)
 folder=target/staticlib
 [ "$machine" = x86_64 ] || folder=target/staticlib-$machine
 archive=$folder/libselquorin.a
+mkdir -p "$folder"
+cat >"$folder/selquorin.pc" <<END
+Name: selquorin
+Description: In how many journals a word is, and the words that a quorum has in common
+Version: $(sed -n 's/^#define SELQUORIN_VERSION "\(.*\)"$/\1/p' include/selquorin.h)
+Cflags: -I\${pcfiledir}/../../include
+Libs: -L\${pcfiledir} -lselquorin
+END
 if [ -f "$archive" ] && [ -z "$(find crates crates.txt -newer "$archive" -print -quit)" ]; then
   echo "$PWD/$folder"
   exit
 fi
 
-rt staticlib selquorin >&2
+bash example/prove.sh selquorin staticlib >&2
 if [ "$machine" != x86_64 ]; then
   kit=$(dirname "$(dirname "$(rt doc)")")
   own=$(mktemp -d)
@@ -33,8 +42,7 @@ if [ "$machine" != x86_64 ]; then
   } >"$own/$tools/bin/clang"
   chmod +x "$own/$tools/bin/clang"
   mv target/staticlib/libselquorin.a "$own/kept"
-  RATTLE_HOME=$own rt staticlib selquorin >&2
-  mkdir -p "$folder"
+  RATTLE_HOME=$own bash example/prove.sh selquorin staticlib >&2
   mv target/staticlib/libselquorin.a "$archive"
   mv "$own/kept" target/staticlib/libselquorin.a
 fi

@@ -112,7 +112,7 @@ def damage(s):
             s.with_written([(book, at, [s.chance.randrange(17, 255)])], ["check"])
     s("lend 1 4097")
     s.with_written([(2, 70, [1])], EVERY_CALL)
-    s.with_written([(1, 0, [2])], EVERY_CALL)
+    s.with_written([(1, 0, [2])], [*EVERY_CALL, "rebuild"])
     s("lend 1 4096", "check", "open", "digest")
 
 

@@ -4,9 +4,9 @@
     python3 tests/pages.py
 
 Read are the words between backquotes. One with a slash or with the ending of a file is a path, from the root or from
-crates/. On a page of docs/ every other single name is one of something: behind "`FILE`:" of that file, behind "`CRATE`:" of
-that crate, where it may be a wrong version too, and elsewhere of any source. The other way round, docs/PROMISES.md names
-every wrong version. Prints a line for each that is missing, and last `pages: N passed, M failed`.
+crates/. On a page of docs/ and in CONTRIBUTING.md every other single name is one of something: behind "`FILE`:" of that
+file, behind "`CRATE`:" of that crate, where it may be a wrong version too, and elsewhere of any source. The other way round,
+docs/PROMISES.md names every wrong version. Prints a line for each that is missing, and last `pages: N passed, M failed`.
 """
 import glob
 import os
@@ -51,7 +51,7 @@ class Tree:
 
 def missing(page, tree):
     """What a page names and the tree has not, and how many it names."""
-    seen, wrong = 0, []
+    seen, wrong, names = 0, [], page.startswith("docs/") or page == "CONTRIBUTING.md"
     for number, line in enumerate(read(page).splitlines(), 1):
         where, named, end = "", "", 0
         for span in re.finditer(r"`([^`]+)`", line):
@@ -65,9 +65,9 @@ def missing(page, tree):
                 seen, named = seen + 1, found[0] if found else ""
                 if not found:
                     wrong.append(f"{page}:{number}: no {text}")
-            elif page.startswith("docs/") and text in tree.crates:
+            elif names and text in tree.crates:
                 named = f"crates/{text}"
-            elif page.startswith("docs/") and NAME.fullmatch(text):
+            elif names and NAME.fullmatch(text):
                 seen += 1
                 if text not in tree.below(where):
                     wrong.append(f"{page}:{number}: no {text} in {where or 'any source'}")

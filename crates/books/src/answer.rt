@@ -9,7 +9,7 @@ use crate::number::DONE;
 
 impl Counted {
     // The count is known.
-    pub(crate) fn done(count: u8) -> Self
+    pub fn done(count: u8) -> Self
         ensures { λ r. ⌜ r ≡ counted done count ⌝ }
     {
         Self {
@@ -19,7 +19,7 @@ impl Counted {
     }
 
     // There is no count, and the number says why.
-    pub(crate) fn refused(number: u8) -> Self
+    pub fn refused(number: u8) -> Self
         ensures { λ r. ⌜ r ≡ counted number 0 ⌝ }
     {
         Self { number, count: 0 }
@@ -28,7 +28,7 @@ impl Counted {
 
 impl Checked {
     // A number with a book and a record, at byte 0.
-    pub(crate) fn at(number: u8, book: u8, at: usize) -> Self
+    pub fn at(number: u8, book: u8, at: usize) -> Self
         ensures { λ r. ⌜ r ≡ checked number book at 0 ⌝ }
     {
         Self {

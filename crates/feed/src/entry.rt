@@ -16,11 +16,11 @@ ghost use Rattle.feed.specs.Entry.{openAppend, openAppendWhole, entryCal
 fn open_append(journals: &mut [u8], rows: &mut [u8], step: u8) -> u8
     ensures { λ r. ⌜ after r (now (journals .exit)) (now (rows .exit)) ≡ openAppend (now (journals .entry)) (now (rows .entry)) step ⌝ }
 {
-    let number = books::open(journals, rows);
+    let number = writing::open(journals, rows);
     if number != DONE {
         return number;
     }
-    books::append(journals, rows, step)
+    writing::append(journals, rows, step)
 }
 
 // Opens the next journal and appends to it, or does neither: on copies of the books until both are done.
@@ -50,15 +50,15 @@ fn open_append_whole(journals: &mut [u8], rows: &mut [u8], step: u8) -> u8
 pub fn enter(journals: &mut [u8], rows: &mut [u8], number: u8, step: u8) -> u8
     ensures { λ r. ⌜ after r (now (journals .exit)) (now (rows .exit)) ≡ entryCall (now (journals .entry)) (now (rows .entry)) number step ⌝ }
 {
-    let known = books::open_journals(journals);
+    let known = reading::open_journals(journals);
     let wrong = known.number;
     if wrong != DONE {
         return wrong;
     }
     match entry_of(known.journals, number, step) {
         Entry::Broken => BROKEN_ENTRY,
-        Entry::Append(s) => books::append(journals, rows, s),
-        Entry::Open => books::open(journals, rows),
+        Entry::Append(s) => writing::append(journals, rows, s),
+        Entry::Open => writing::open(journals, rows),
         Entry::OpenAppend(s) => open_append_whole(journals, rows, s),
     }
 }

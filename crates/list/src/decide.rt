@@ -55,7 +55,7 @@ pub(crate) fn decide(
     if word_record.len() != WORD_RECORD || wrong_output(out) {
         return WRONG_SIZE;
     }
-    let seen = books::check(journals, rows);
+    let seen = checking::check(journals, rows);
     let number = seen.number;
     if number != DONE {
         return number;
@@ -76,7 +76,7 @@ pub(crate) fn decide(
 fn wrong_quorum(rows: &[u8], quorum: usize) -> bool
     ensures { λ r. ⌜ r ≡ (ltb quorum 1 || ltb (tableOf (now (rows .entry)) []) quorum) ⌝ }
 {
-    let counted = books::table_count(rows, &rows[..0]);
+    let counted = reading::table_count(rows, &rows[..0]);
     quorum < 1 || (counted.count as usize) < quorum
 }
 
@@ -85,7 +85,7 @@ fn wrong_word(journals: &[u8], limit: usize, word_record: &[u8]) -> bool
     requires { ⌜ length (now word_record) ≡ wordRecordSize ⌝ }
     ensures { λ r. ⌜ r ≡ (eqb (journalCountCall (now (journals .entry)) (now (word_record .entry)) .number) 10 || ltb limit (getD (now (word_record .entry)) 0 0)) ⌝ }
 {
-    let counted = books::journal_count(journals, word_record);
+    let counted = reading::journal_count(journals, word_record);
     let number = counted.number;
     number == WRONG_WORD || limit < word_record[0] as usize
 }

@@ -19,7 +19,7 @@ fn reaches(rows: &[u8], quorum: usize, w: Word) -> bool
 {
     let n = w.len;
     let steps = w.steps;
-    let counted = books::table_count(rows, &steps[..n]);
+    let counted = reading::table_count(rows, &steps[..n]);
     quorum <= counted.count as usize
 }
 

@@ -44,7 +44,7 @@ fn answer(journals: &[u8], rows: &[u8]) {
         return;
     }
     // The count of the empty word is the greatest quorum, and the one that stands where none is asked.
-    let counted = books::table_count(rows, &rows[..0]);
+    let counted = reading::table_count(rows, &rows[..0]);
     let most = counted.count as usize;
     let ask = feed::read_ask(most, &file[..n]);
     let number = ask.number;

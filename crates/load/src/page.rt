@@ -47,7 +47,7 @@ fn record_line(rows: &[u8], word_record: &[u8]) -> Line
 {
     let n = word_record[0] as usize;
     let end = 1 + least(n, LONGEST_WORD);
-    let counted = books::table_count(rows, &word_record[1..end]);
+    let counted = reading::table_count(rows, &word_record[1..end]);
     text::word_line(counted.count, &word_record[1..end])
 }
 

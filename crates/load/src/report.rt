@@ -106,8 +106,8 @@ fn print_words(journals: &[u8], rows: &[u8], ask: Ask) -> Printed
 
 // Prints the list: the first line, the words, and the last line once every word was written.
 pub(crate) fn print_list(journals: &[u8], rows: &[u8], ask: Ask) {
-    let known = books::open_journals(journals);
-    let live = books::live_rows(journals, rows);
+    let known = reading::open_journals(journals);
+    let live = checking::live_rows(journals, rows);
     if !print_line(text::first_line(known.journals, live.rows)) {
         return;
     }

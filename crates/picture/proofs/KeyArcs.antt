@@ -19,10 +19,10 @@ use Rattle.records.proofs.Keys.{Widths, key-back, key-length, keys-ascending, r
 use Rattle.records.proofs.Flat.{flat-map}
 use Rattle.keys.specs.Keys.{rankOf}
 use Rattle.keys.proofs.Ranks.{rank-row}
-use Rattle.picture.specs.Nexts.{Tabled}
-use Rattle.picture.specs.Stepped.{steppedKey}
+use Rattle.states.specs.Nexts.{Tabled}
+use Rattle.states.specs.Stepped.{steppedKey}
 use Rattle.picture.specs.KeyRow.{keyArc, keyArcs, keyRow, keyBook}
-use Rattle.picture.proofs.Stepped.{stepped-key}
+use Rattle.states.proofs.Stepped.{stepped-key}
 
 -- the keys of the picture's rows
 abbrev pub rowKeys : List (List ℕ) → List (List ℕ)

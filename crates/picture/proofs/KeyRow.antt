@@ -7,7 +7,7 @@ use lib.ListN.{length, take, getD}
 use Rattle.words.specs.Places.{live}
 use Rattle.words.proofs.Codes.{at-step}
 use Rattle.keys.specs.Keys.{rankOf}
-use Rattle.picture.specs.Stepped.{steppedKey}
+use Rattle.states.specs.Stepped.{steppedKey}
 use Rattle.picture.specs.KeyRow.{keyArc, keyArcs}
 
 module _ (nexts : List ℕ) (k : ℕ) (keys : List (List ℕ)) (key : List ℕ) where

@@ -1,8 +1,3 @@
-pub mod Entries
-pub mod Live
-pub mod Stepped
-pub mod Added
-pub mod Sweeping
 pub mod KeyRow
 pub mod Laid
 pub mod Linked

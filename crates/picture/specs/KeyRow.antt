@@ -7,7 +7,7 @@ use Rattle.words.specs.Places.{live}
 use Rattle.words.specs.Picture.{steps}
 use Rattle.records.specs.RowBook.{rowRecord, countByte, behindCount, bookOf}
 use Rattle.keys.specs.Keys.{rankOf}
-use Rattle.picture.specs.Stepped.{steppedKey}
+use Rattle.states.specs.Stepped.{steppedKey}
 
 -- the arc of a key under step s: the rank of the key that it leads to, and 0 if that isn't live
 unfoldable pub keyArc : List ℕ → ℕ → List (List ℕ) → List ℕ → ℕ → ℕ

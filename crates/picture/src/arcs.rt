@@ -1,9 +1,9 @@
 // A row's arcs: its places are stepped to a new array under each step, and that is looked for among the states.
 
-use crate::state::count_of;
-use crate::state::is_live;
-use crate::state::step_key;
 use rows::Row;
+use states::state::count_of;
+use states::state::is_live;
+use states::state::step_key;
 use words::STEP_CODES;
 ghost use mathlib.Core.Path.{_≡_};
 ghost use Prim.Native.Nat.{_≤_, _<_};
@@ -12,7 +12,7 @@ ghost use Rattle.words.specs.Order.{Ascending};
 ghost use Rattle.words.specs.Limits.{stepCodes, mostJournals};
 ghost use Rattle.records.specs.Sizes.{mostRows};
 ghost use Rattle.records.specs.RowBook.{countByte};
-ghost use Rattle.picture.specs.Nexts.{nextsOfAll};
+ghost use Rattle.states.specs.Nexts.{nextsOfAll};
 ghost use Rattle.picture.specs.KeyRow.{keyArc, keyArcs};
 ghost use Rattle.keys.specs.Keys.{keysRoom, keysIn};
 

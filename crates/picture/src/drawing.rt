@@ -15,7 +15,7 @@ ghost use Rattle.records.specs.RowBook.{bookOf};
 ghost use Rattle.records.specs.Sizes.{rowBookSize, mostRows};
 ghost use Rattle.picture.specs.KeyRow.{keyBook};
 ghost use Rattle.picture.specs.Laid.{laid};
-ghost use Rattle.picture.specs.Nexts.{nextsOfAll};
+ghost use Rattle.states.specs.Nexts.{nextsOfAll};
 ghost use Rattle.keys.specs.Keys.{keysRoom, keysIn};
 
 // Lays a record for each of the n states, with its places and nothing else, and zeros behind them.

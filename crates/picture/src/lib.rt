@@ -2,16 +2,13 @@
 
 mod arcs;
 mod drawing;
-mod nexts;
-mod state;
-mod states;
 
 use drawing::draw_rows;
 use keys::KEYS_ROOM;
-use nexts::ALL_NEXTS;
-use nexts::tabulate;
 use records::ROWS;
 use states::find_states;
+use states::nexts::ALL_NEXTS;
+use states::nexts::tabulate;
 ghost use mathlib.Core.Path.{_≡_};
 ghost use mathlib.Core.Bool.{true};
 ghost use lib.ListN.{length};
@@ -28,11 +25,11 @@ pub fn draw(journals: &[u8], rows: &mut [u8]) -> usize
     let k = journal::open_count(journals);
     let mut nexts = [0u8; ALL_NEXTS];
     tabulate(journals, k, &mut nexts);
-    let mut held = [0u8; KEYS_ROOM];
-    let n = find_states(&nexts, k, &mut held);
+    let mut room = [0u8; KEYS_ROOM];
+    let n = find_states(&nexts, k, &mut room);
     if ROWS < n {
         return n;
     }
-    draw_rows(&nexts, k, &held, n, rows);
+    draw_rows(&nexts, k, &room, n, rows);
     n
 }

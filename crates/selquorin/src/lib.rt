@@ -22,7 +22,7 @@ ghost use Rattle.selquorin.specs.Packed.{flagged, packedCount, packedChe
 pub extern "C" fn selquorin_clear(journals: &mut [u8], rows: &mut [u8]) -> u8
     ensures { λ r. ⌜ after r (now (journals .exit)) (now (rows .exit)) ≡ clearCall (now (journals .entry)) (now (rows .entry)) ⌝ }
 {
-    books::clear(journals, rows)
+    writing::clear(journals, rows)
 }
 
 // Opens the next journal.
@@ -30,7 +30,7 @@ pub extern "C" fn selquorin_clear(journals: &mut [u8], rows: &mut [u8]) -> u8
 pub extern "C" fn selquorin_open(journals: &mut [u8], rows: &mut [u8]) -> u8
     ensures { λ r. ⌜ after r (now (journals .exit)) (now (rows .exit)) ≡ openCall (now (journals .entry)) (now (rows .entry)) ⌝ }
 {
-    books::open(journals, rows)
+    writing::open(journals, rows)
 }
 
 // Appends a step to the journal opened last.
@@ -38,7 +38,7 @@ pub extern "C" fn selquorin_open(journals: &mut [u8], rows: &mut [u8]) -> u8
 pub extern "C" fn selquorin_append(journals: &mut [u8], rows: &mut [u8], step: u8) -> u8
     ensures { λ r. ⌜ after r (now (journals .exit)) (now (rows .exit)) ≡ appendCall (now (journals .entry)) (now (rows .entry)) step ⌝ }
 {
-    books::append(journals, rows, step)
+    writing::append(journals, rows, step)
 }
 
 // Draws the row book anew from the journal book.
@@ -46,7 +46,7 @@ pub extern "C" fn selquorin_append(journals: &mut [u8], rows: &mut [u8], step: u
 pub extern "C" fn selquorin_rebuild(journals: &[u8], rows: &mut [u8]) -> u8
     ensures { λ r. ⌜ after r (now (journals .entry)) (now (rows .exit)) ≡ rebuildCall (now (journals .entry)) (now (rows .entry)) ⌝ }
 {
-    books::rebuild(journals, rows)
+    writing::rebuild(journals, rows)
 }
 
 // A count's answer in one number: its number, and the count 256 times.
@@ -63,7 +63,7 @@ fn packed_count(counted: Counted) -> u32
 pub extern "C" fn selquorin_table_count(rows: &[u8], word: &[u8]) -> u32
     ensures { λ r. ⌜ r ≡ packedCount (tableCountCall (now (rows .entry)) (now (word .entry))) ⌝ }
 {
-    packed_count(books::table_count(rows, word))
+    packed_count(reading::table_count(rows, word))
 }
 
 // Counts a word by the journal book.
@@ -71,7 +71,7 @@ pub extern "C" fn selquorin_table_count(rows: &[u8], word: &[u8]) -> u32
 pub extern "C" fn selquorin_journal_count(journals: &[u8], word_record: &[u8]) -> u32
     ensures { λ r. ⌜ r ≡ packedCount (journalCountCall (now (journals .entry)) (now (word_record .entry))) ⌝ }
 {
-    packed_count(books::journal_count(journals, word_record))
+    packed_count(reading::journal_count(journals, word_record))
 }
 
 // Checks both books: the number, the book 2^8 times, the record 2^16 times and the byte 2^32 times.
@@ -79,7 +79,7 @@ pub extern "C" fn selquorin_journal_count(journals: &[u8], word_record: &[u8]) -
 pub extern "C" fn selquorin_check(journals: &[u8], rows: &[u8]) -> u64
     ensures { λ r. ⌜ r ≡ packedCheck (checkCall (now (journals .entry)) (now (rows .entry))) ⌝ }
 {
-    let seen = books::check(journals, rows);
+    let seen = checking::check(journals, rows);
     let number = seen.number;
     let book = seen.book;
     let at = seen.at;
@@ -121,7 +121,7 @@ pub extern "C" fn selquorin_list(
 pub extern "C" fn selquorin_row_record_number(rows: &[u8], row: usize) -> u8
     ensures { λ r. ⌜ r ≡ rowRecordNumberCall (now (rows .entry)) row ⌝ }
 {
-    books::row_record_number(rows, row)
+    reading::row_record_number(rows, row)
 }
 
 // How many journals are open: the number, and the journals 2^8 times.
@@ -129,7 +129,7 @@ pub extern "C" fn selquorin_row_record_number(rows: &[u8], row: usize) -> u8
 pub extern "C" fn selquorin_journals(journals: &[u8]) -> u32
     ensures { λ r. ⌜ r ≡ packedJournals (openJournalsCall (now (journals .entry))) ⌝ }
 {
-    let told = books::open_journals(journals);
+    let told = reading::open_journals(journals);
     let number = told.number;
     let open_ones = told.journals;
     number as u32 + 256 * (open_ones as u32)
@@ -140,7 +140,7 @@ pub extern "C" fn selquorin_journals(journals: &[u8]) -> u32
 pub extern "C" fn selquorin_rows(journals: &[u8], rows: &[u8]) -> u32
     ensures { λ r. ⌜ r ≡ packedRows (liveRowsCall (now (journals .entry)) (now (rows .entry))) ⌝ }
 {
-    let told = books::live_rows(journals, rows);
+    let told = checking::live_rows(journals, rows);
     let number = told.number;
     let live_ones = told.rows;
     number as u32 + 256 * (live_ones as u32)

@@ -15,7 +15,7 @@ struct Appended {
 fn append_all(steps: &[u8], journals: &mut [u8], rows: &mut [u8]) -> Appended {
     let mut taken = 0;
     while taken < steps.len() {
-        let number = books::append(journals, rows, steps[taken]);
+        let number = writing::append(journals, rows, steps[taken]);
         if number != DONE {
             return Appended { number, taken };
         }
@@ -28,7 +28,7 @@ fn append_all(steps: &[u8], journals: &mut [u8], rows: &mut [u8]) -> Appended {
 }
 
 pub(crate) fn clear(journals: &mut [u8], rows: &mut [u8]) {
-    answer(books::clear(journals, rows));
+    answer(writing::clear(journals, rows));
 }
 
 pub(crate) fn append(steps: &[u8], journals: &mut [u8], rows: &mut [u8]) {
@@ -39,7 +39,7 @@ pub(crate) fn append(steps: &[u8], journals: &mut [u8], rows: &mut [u8]) {
 
 // Opens a journal; where steps are given, it is opened with these.
 pub(crate) fn open(steps: &[u8], journals: &mut [u8], rows: &mut [u8]) {
-    let number = books::open(journals, rows);
+    let number = writing::open(journals, rows);
     if number != DONE {
         answer(number);
         return;
@@ -48,23 +48,23 @@ pub(crate) fn open(steps: &[u8], journals: &mut [u8], rows: &mut [u8]) {
 }
 
 pub(crate) fn rebuild(journals: &[u8], rows: &mut [u8]) {
-    answer(books::rebuild(journals, rows));
+    answer(writing::rebuild(journals, rows));
 }
 
 pub(crate) fn table(word: &[u8], rows: &[u8]) {
-    let counted = books::table_count(rows, word);
+    let counted = reading::table_count(rows, word);
     answer(counted.number);
     field(b", count ", wide(counted.count));
 }
 
 pub(crate) fn count(word: &[u8], journals: &[u8]) {
-    let counted = books::journal_count(journals, word);
+    let counted = reading::journal_count(journals, word);
     answer(counted.number);
     field(b", count ", wide(counted.count));
 }
 
 pub(crate) fn check(journals: &[u8], rows: &[u8]) {
-    let checked = books::check(journals, rows);
+    let checked = checking::check(journals, rows);
     answer(checked.number);
     field(b", book ", wide(checked.book));
     field(b", record ", checked.at as u64);
@@ -72,13 +72,13 @@ pub(crate) fn check(journals: &[u8], rows: &[u8]) {
 }
 
 pub(crate) fn journals(journals: &[u8]) {
-    let opened = books::open_journals(journals);
+    let opened = reading::open_journals(journals);
     answer(opened.number);
     field(b", ", opened.journals as u64);
 }
 
 pub(crate) fn rows(journals: &[u8], rows: &[u8]) {
-    let live = books::live_rows(journals, rows);
+    let live = checking::live_rows(journals, rows);
     answer(live.number);
     field(b", ", live.rows as u64);
 }

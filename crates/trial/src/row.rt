@@ -47,8 +47,8 @@ fn print_row(bytes: &[u8])
 
 // The row record call: prints its number, and the part that it gives back.
 pub(crate) fn row(n: usize, rows: &[u8]) {
-    answer(books::row_record_number(rows, n));
-    let given = books::row_record(rows, n);
+    answer(reading::row_record_number(rows, n));
+    let given = reading::row_record(rows, n);
     if given.len() == ROW_RECORD {
         print_row(given);
     } else {

@@ -1,26 +1,12 @@
 //! A call made by the safe types of the crate `selquorin`, on books that are borrowed.
 
-use crate::{Answer, Call, SIZES};
+use crate::{Answer, Call};
 use selquorin::{BooksMut, BooksRef, Error, Step, Verdict, Word, Words, WORD_RECORD};
 
 /// What a call answers; none where the safe types rule it out: for books of a wrong size, a step
 /// above 15, a word record of wrong form, or an output that isn't whole word records.
 pub fn made(journals: &mut [u8], rows: &mut [u8], call: &Call, out: &mut [u8]) -> Option<Answer> {
-    if [journals.len(), rows.len()] != SIZES {
-        assert_eq!(BooksRef::from_bytes(journals, rows), Err(Error::WrongSize));
-        assert_eq!(BooksMut::from_bytes(journals, rows), Err(Error::WrongSize));
-        return None;
-    }
-    match call {
-        Call::Clear | Call::Open | Call::Append(_) => {
-            written(BooksMut::from_bytes(journals, rows).ok()?, call)
-        }
-        _ => read(BooksRef::from_bytes(journals, rows).ok()?, call, out),
-    }
-}
-
-/// What a call that writes answers.
-fn written(mut books: BooksMut<'_>, call: &Call) -> Option<Answer> {
+    let mut books = BooksMut::from_bytes(journals, rows).ok()?;
     let done = match call {
         Call::Clear => {
             books.clear();
@@ -28,7 +14,8 @@ fn written(mut books: BooksMut<'_>, call: &Call) -> Option<Answer> {
         }
         Call::Open => books.open(),
         Call::Append(code) => books.append(Step::new(*code).ok()?),
-        _ => unreachable!("{call:?} writes nothing"),
+        Call::Rebuild => books.rebuild(),
+        _ => return read(BooksRef::from_bytes(journals, rows).ok()?, call, out),
     };
     Some(answer(done.map(|()| (0, 0, 0))))
 }
@@ -68,7 +55,7 @@ fn read(books: BooksRef<'_>, call: &Call, out: &mut [u8]) -> Option<Answer> {
             answer(words.map(|words| first_page(words, out)))
         }
         Call::Row(row) => answer(books.row(*row).map(|_| (0, 0, 0))),
-        Call::Clear | Call::Open | Call::Append(_) => unreachable!("{call:?} writes"),
+        _ => unreachable!("{call:?} writes"),
     })
 }
 

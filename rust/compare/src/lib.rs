@@ -96,7 +96,7 @@ impl fmt::Debug for Call {
 /// What a call answers, whichever it is.
 #[derive(Clone, Copy, Debug, PartialEq, Eq)]
 pub struct Answer {
-    /// The number of document 01.
+    /// 0: done. Else why it was refused.
     pub number: u8,
     /// Count; or how many journals or rows; or book; or 1 where a further word remains.
     pub first: usize,

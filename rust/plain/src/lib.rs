@@ -4,7 +4,7 @@
 //! This crate shares no code with the proved library or its wrapper. It is there to be compared
 //! with, so it prefers the plain way of saying a thing: journals as rows of steps, states as rows
 //! of places, the picture drawn anew each time. Every function answers for every input: wrong
-//! sizes and damaged bytes too. Names are the document's, so that its rules are found by them.
+//! sizes and damaged bytes too. Names are those of README.md, so that its rules are found by them.
 
 use std::collections::{BTreeMap, BTreeSet};
 
@@ -33,7 +33,7 @@ pub type State = [u8; MOST_JOURNALS];
 /// What a count answers.
 #[derive(Clone, Copy, Debug, PartialEq, Eq)]
 pub struct Counted {
-    /// The number of document 01.
+    /// 0: done. Else why it was refused.
     pub number: u8,
     /// The count; 0 with a refusal.
     pub count: u8,
@@ -42,7 +42,7 @@ pub struct Counted {
 /// What the number of open journals answers.
 #[derive(Clone, Copy, Debug, PartialEq, Eq)]
 pub struct OpenJournals {
-    /// The number of document 01.
+    /// 0: done. Else why it was refused.
     pub number: u8,
     /// How many journals are open; 0 with a refusal.
     pub journals: usize,
@@ -51,7 +51,7 @@ pub struct OpenJournals {
 /// What the number of live rows answers.
 #[derive(Clone, Copy, Debug, PartialEq, Eq)]
 pub struct LiveRows {
-    /// The number of document 01.
+    /// 0: done. Else why it was refused.
     pub number: u8,
     /// How many rows are live; 0 with a refusal.
     pub rows: usize,
@@ -60,7 +60,7 @@ pub struct LiveRows {
 /// What the check answers.
 #[derive(Clone, Copy, Debug, PartialEq, Eq)]
 pub struct Checked {
-    /// The number of document 01.
+    /// 0: done. Else why it was refused.
     pub number: u8,
     /// 1 or 2 where that book is wrong, else 0.
     pub book: u8,
@@ -73,7 +73,7 @@ pub struct Checked {
 /// What the list answers.
 #[derive(Clone, Copy, Debug, PartialEq, Eq)]
 pub struct Listed {
-    /// The number of document 01.
+    /// 0: done. Else why it was refused.
     pub number: u8,
     /// How many words were written.
     pub written: usize,

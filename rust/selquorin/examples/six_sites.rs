@@ -101,8 +101,11 @@ fn full() -> Result<Books, Error> {
     Ok(books)
 }
 
-/// What the desk tried, each with its refusal.
-fn tried() -> Result<Vec<(&'static str, Result<(), Error>)>, Error> {
+/// What the desk tried, and what was answered.
+type Tried = (&'static str, Result<(), Error>);
+
+/// All that is refused by the library.
+fn tried() -> Result<Vec<Tried>, Error> {
     let books = load()?;
     let step = steps("sync")?[0];
     let mut flipped = books.clone();

@@ -26,10 +26,11 @@ pub struct BooksIn<J, R> {
     pub(crate) rows: R,
 }
 
-/// Books in memory of their own, on the heap.
+/// Books in memory of their own, on the heap. Their calls are those of [`BooksIn`].
 pub type Books = BooksIn<Box<[u8; JOURNAL_BOOK]>, Box<[u8; ROW_BOOK]>>;
 
-/// Books in memory that the caller owns, to read: bytes from a file, or a map of one.
+/// Books in memory that the caller owns, to read: bytes from a file, or a map of one. Their calls
+/// are those of [`BooksIn`] that read.
 ///
 /// ```
 /// use selquorin::{BooksRef, Error, JOURNAL_BOOK, ROW_BOOK};
@@ -45,7 +46,7 @@ pub type Books = BooksIn<Box<[u8; JOURNAL_BOOK]>, Box<[u8; ROW_BOOK]>>;
 /// ```
 pub type BooksRef<'a> = BooksIn<&'a [u8; JOURNAL_BOOK], &'a [u8; ROW_BOOK]>;
 
-/// Books in memory that the caller owns, to read and to write.
+/// Books in memory that the caller owns, to read and to write. Their calls are those of [`BooksIn`].
 ///
 /// ```
 /// use selquorin::{BooksMut, Error, Step, JOURNAL_BOOK, ROW_BOOK};

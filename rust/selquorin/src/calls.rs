@@ -17,10 +17,12 @@ where
     /// In how many journals a word is, by the row book alone: one look at the table for each step.
     /// The word may have any length.
     ///
+    /// It trusts the row book, and is right if the books are sound. Where something hangs on the
+    /// count, [`check`](BooksIn::check) books that come from elsewhere first.
+    ///
     /// # Errors
     ///
     /// [`Damaged`](Error::Damaged), if the walk along the table meets a byte that can't be right.
-    /// It doesn't check the books as a whole.
     pub fn table_count(&self, word: &[Step]) -> Result<u8, Error> {
         let answer = raw::table_count(&self.rows[..], raw::codes(word));
         done(answer.number).map(|()| answer.count)

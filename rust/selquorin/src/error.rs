@@ -1,10 +1,20 @@
-//! The numbers of document 01, as errors.
+//! The numbers of refusals, as errors.
 
 use std::fmt;
 
 /// Why a call was refused. A refused call has changed nothing.
 ///
 /// Further numbers may come, so that a `match` needs an arm for them.
+///
+/// ```
+/// use selquorin::{Books, Error};
+///
+/// match Books::new().list(1, 3) {
+///     Ok(words) => words.for_each(|word| println!("{word}")),
+///     Err(Error::WrongQuorum) => println!("there are too few journals"),
+///     Err(error) => println!("refused {}: {error}", error.number()),
+/// }
+/// ```
 #[derive(Clone, Copy, Debug, PartialEq, Eq, Hash)]
 #[non_exhaustive]
 pub enum Error {

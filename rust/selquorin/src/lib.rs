@@ -6,6 +6,13 @@
 //! books answer in how many journals a word is, and list the words that at least a given number of
 //! journals hold.
 //!
+//! A word's *place* in a journal is where it ends if each of its steps is found as early as can be:
+//! the number of that step, from 1, and 0 for the empty word. It is *lost* where the word isn't in.
+//! The places of a word, one in each journal, are a *state*, and it is *live* if one of them isn't
+//! lost. The table, or *picture*, has a *row* for each live state: its places, its count, and by
+//! each step an *arc* to the row of the words with that step more. Books are *sound* when the
+//! journal book has its form and the row book is the picture of its journals.
+//!
 //! The calls themselves are proved and come from the static library `libselquorin.a`. This crate
 //! only lends it memory: [`Books`], [`Word`]s and [`Step`]s have right sizes and codes once they are
 //! made, and the library's numbers become [`Error`]s and a [`Verdict`]. [`Books`] have memory of

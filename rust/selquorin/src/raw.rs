@@ -1,8 +1,8 @@
 //! The library's calls as they are, over bytes of any length and content.
 //!
 //! Nothing is tested here: the library answers for every input, wrong sizes and damaged bytes too,
-//! with a number of document 01 (0: done), and a refusal writes nothing. These functions only turn
-//! slices into pointers with lengths, and packed answers into fields.
+//! with 0 for "done" or the number of an [`Error`](crate::Error), and a refusal writes nothing.
+//! These functions only turn slices into pointers with lengths, and packed answers into fields.
 
 use crate::Step;
 use std::slice;
@@ -10,7 +10,7 @@ use std::slice;
 /// What a count answers.
 #[derive(Clone, Copy, Debug, PartialEq, Eq)]
 pub struct Counted {
-    /// The number of document 01.
+    /// 0: done. Else the number of an [`Error`](crate::Error).
     pub number: u8,
     /// The count; 0 with a refusal.
     pub count: u8,
@@ -19,7 +19,7 @@ pub struct Counted {
 /// What the number of open journals answers.
 #[derive(Clone, Copy, Debug, PartialEq, Eq)]
 pub struct OpenJournals {
-    /// The number of document 01.
+    /// 0: done. Else the number of an [`Error`](crate::Error).
     pub number: u8,
     /// How many journals are open; 0 with a refusal.
     pub journals: usize,
@@ -28,7 +28,7 @@ pub struct OpenJournals {
 /// What the number of live rows answers.
 #[derive(Clone, Copy, Debug, PartialEq, Eq)]
 pub struct LiveRows {
-    /// The number of document 01.
+    /// 0: done. Else the number of an [`Error`](crate::Error).
     pub number: u8,
     /// How many rows are live; 0 with a refusal.
     pub rows: usize,
@@ -37,7 +37,7 @@ pub struct LiveRows {
 /// What the check answers.
 #[derive(Clone, Copy, Debug, PartialEq, Eq)]
 pub struct Checked {
-    /// The number of document 01.
+    /// 0: done. Else the number of an [`Error`](crate::Error).
     pub number: u8,
     /// 1 or 2 where that book is wrong, else 0.
     pub book: u8,
@@ -50,7 +50,7 @@ pub struct Checked {
 /// What the list answers.
 #[derive(Clone, Copy, Debug, PartialEq, Eq)]
 pub struct Listed {
-    /// The number of document 01.
+    /// 0: done. Else the number of an [`Error`](crate::Error).
     pub number: u8,
     /// How many words were written.
     pub written: usize,

@@ -7,7 +7,7 @@ use Rattle.words.specs.Words.{AreJournals}
 use Rattle.records.specs.JournalBook.{journalsOf}
 use Rattle.records.proofs.Form.{form-book}
 use Rattle.journal.proofs.Journals.{form-size}
-use Rattle.picture.specs.Found.{Found}
+use Rattle.states.specs.Found.{Found}
 use Rattle.picture.proofs.Drawn.{says-many, says-few, drawn-few, drawn-many}
 use Rattle.picture.proofs.KeyArcs.{row-keys-ascending, keys-book}
 use borrow.Author.Needs.{needs}

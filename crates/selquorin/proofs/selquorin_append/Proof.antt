@@ -1,4 +1,4 @@
--- `selquorin::selquorin_append` meets its contract: it is `books::append`. Assumes nothing.
+-- `selquorin::selquorin_append` meets its contract: it is `writing::append`. Assumes nothing.
 use borrow.Author.Needs.{needs}
 use Rattle.selquorin.proofs.selquorin_append.Statement.{statement}
 use Rattle.selquorin.proofs.selquorin_append.Tie as tie

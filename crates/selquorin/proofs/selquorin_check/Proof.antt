@@ -1,4 +1,4 @@
--- `selquorin::selquorin_check` meets its contract: what it packs is what `books::check` answers, whose record and byte are small. Assumes nothing.
+-- `selquorin::selquorin_check` meets its contract: what it packs is what `checking::check` answers, whose record and byte are small. Assumes nothing.
 use mathlib.Core.Path.{ap}
 use native.Mathlib.Omega.{arith}
 use borrow.Author.Needs.{needs}

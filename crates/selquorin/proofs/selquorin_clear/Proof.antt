@@ -1,4 +1,4 @@
--- `selquorin::selquorin_clear` meets its contract: it is `books::clear`. Assumes nothing.
+-- `selquorin::selquorin_clear` meets its contract: it is `writing::clear`. Assumes nothing.
 use borrow.Author.Needs.{needs}
 use Rattle.selquorin.proofs.selquorin_clear.Statement.{statement}
 use Rattle.selquorin.proofs.selquorin_clear.Tie as tie

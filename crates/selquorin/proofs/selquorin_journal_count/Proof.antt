@@ -1,4 +1,4 @@
--- `selquorin::selquorin_journal_count` meets its contract: what is packed is what `books::journal_count` answers. Assumes nothing.
+-- `selquorin::selquorin_journal_count` meets its contract: what is packed is what `reading::journal_count` answers. Assumes nothing.
 use mathlib.Core.Path.{ap, _∙_}
 use borrow.Author.Needs.{needs}
 use Rattle.selquorin.specs.Packed.{packedCount}

@@ -1,4 +1,4 @@
--- `selquorin::selquorin_journals` meets its contract: what it packs is what `books::open_journals` answers, which is small. Assumes nothing.
+-- `selquorin::selquorin_journals` meets its contract: what it packs is what `reading::open_journals` answers, which is small. Assumes nothing.
 use mathlib.Core.Path.{ap}
 use native.Mathlib.Omega.{arith}
 use borrow.Author.Needs.{needs}

@@ -1,4 +1,4 @@
--- `selquorin::selquorin_open` meets its contract: it is `books::open`. Assumes nothing.
+-- `selquorin::selquorin_open` meets its contract: it is `writing::open`. Assumes nothing.
 use borrow.Author.Needs.{needs}
 use Rattle.selquorin.proofs.selquorin_open.Statement.{statement}
 use Rattle.selquorin.proofs.selquorin_open.Tie as tie

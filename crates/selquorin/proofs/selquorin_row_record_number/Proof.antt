@@ -1,4 +1,4 @@
--- `selquorin::selquorin_row_record_number` meets its contract: it is `books::row_record_number`. Assumes nothing.
+-- `selquorin::selquorin_row_record_number` meets its contract: it is `reading::row_record_number`. Assumes nothing.
 use borrow.Author.Needs.{needs}
 use Rattle.selquorin.proofs.selquorin_row_record_number.Statement.{statement}
 use Rattle.selquorin.proofs.selquorin_row_record_number.Tie as tie

@@ -1,4 +1,4 @@
--- `selquorin::selquorin_rows` meets its contract: what it packs is what `books::live_rows` answers, which is small. Assumes nothing.
+-- `selquorin::selquorin_rows` meets its contract: what it packs is what `checking::live_rows` answers, which is small. Assumes nothing.
 use mathlib.Core.Path.{ap}
 use native.Mathlib.Omega.{arith}
 use borrow.Author.Needs.{needs}
