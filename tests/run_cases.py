@@ -9,6 +9,7 @@ Each run has a folder of its own, with nothing in it but the ask.bin of the case
 by a signal, and leave the folder as it was; and of standard output every byte is compared. On standard error nothing may
 stand, but for the name of what couldn't be read or written.
 """
+import multiprocessing
 import os
 import pty
 import resource
@@ -196,6 +197,7 @@ def part(name):
 
 
 def hold_line(name, line):
+    print(line, flush=True)
     if not kept.holds(name, line):
         raise Wrong("tests/digests.txt has another line for them")
 
@@ -203,7 +205,6 @@ def hold_line(name, line):
 def cases(program):
     for name in "cases named", "cases random":
         tried, line = part(name)
-        print(line, flush=True)
         yield name, lambda: hold_line(name, line)
         for each, stdin, ask, due in tried:
             yield each, lambda: same(text(program, ask, [stdin]), due)
@@ -323,18 +324,40 @@ def failing_output(program):
 EVERY = cases, pieces, failing_input, failing_output, large
 
 
-def main(called, program, every=EVERY):
+def share(program, every, begun, ended):
+    """Goes through all runs and does those that no other process has begun. Hands on how many passed and failed, and the longest."""
     passed, failed, longest = 0, 0, (0.0, "none")
-    for runs in every:
-        for name, do in runs(program):
-            begun = time.monotonic()
-            try:
-                do()
-                passed += 1
-            except Wrong as wrong:
-                failed += 1
-                print(f"{name}: {wrong}", flush=True)
-            longest = max(longest, (time.monotonic() - begun, name))
+    for at, (name, do) in enumerate(one for runs in every for one in runs(program)):
+        with begun:
+            if at < begun.value:
+                continue
+            begun.value = at + 1
+        start = time.monotonic()
+        try:
+            do()
+            passed += 1
+        except Wrong as wrong:
+            failed += 1
+            print(f"{name}: {wrong}", flush=True)
+        longest = max(longest, (time.monotonic() - start, name))
+    ended.put((passed, failed, longest))
+
+
+def main(called, program, every=EVERY):
+    """Runs all, as many at a time as there are processors. What the models say is made first, for all processes."""
+    for name in "cases named", "cases random":
+        part(name)
+    forked = multiprocessing.get_context("fork")
+    begun, ended = forked.Value("i", 0), forked.Queue()
+    workers = [forked.Process(target=share, args=(program, every, begun, ended)) for _ in range(os.cpu_count())]
+    for worker in workers:
+        worker.start()
+    for worker in workers:
+        worker.join()
+    whole = [ended.get() for worker in workers if worker.exitcode == 0]
+    passed = sum(each[0] for each in whole)
+    failed = sum(each[1] for each in whole) + len(workers) - len(whole)
+    longest = max((each[2] for each in whole), default=(0.0, "none"))
     print(f"longest run: {longest[0]:.1f} s, {longest[1]}")
     print(f"{called}: {passed} passed, {failed} failed")
     return 0 if failed == 0 and passed > 0 else 1

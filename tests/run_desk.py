@@ -107,8 +107,9 @@ def keeping(desk):
 
 # Counting.
 
-def count_words(desk, name, chance):
+def count_words(desk, name):
     """Words of the case's steps counted, by the entries and by kept books."""
+    chance = random.Random(f"{kept.seed(DAMAGED)} {name}")
     stdin = case(name)[0]
     books = program_model.load(stdin)[0]
     journals = model.journals_of(books[0])
@@ -126,9 +127,8 @@ def count_words(desk, name, chance):
 
 
 def counting(desk):
-    chance = random.Random(kept.seed(DAMAGED))
     for name in "example", "one_empty_journal", "no_journal_ask_missing", "journals_16", "journals_16_of_200", "rows_1000", "every_step":
-        yield f"{name}, counted", lambda: count_words(desk, name, chance)
+        yield f"{name}, counted", lambda: count_words(desk, name)
 
 
 # Kept books that aren't sound.
@@ -190,7 +190,6 @@ def rebuild(desk, data):
 
 def checking(desk):
     files = damaged(kept.seed(DAMAGED))
-    print(damaged_line(files), flush=True)
     yield DAMAGED, lambda: run_cases.hold_line(DAMAGED, damaged_line(files))
     for n, data in enumerate(files):
         yield f"damaged {n}", lambda: check_and_count(desk, data)

@@ -10,7 +10,8 @@ use Rattle.books.proofs.Checks.{check-numbers, check-verdict}
 use Rattle.books.proofs.Refusals.{first-given, given-first, call-numbers, call-refused, table-count-numbers, table-count-refused, journal-count-numbers, journal-count-refused, open-journals-numbers, open-journals-refused, live-rows-numbers, live-rows-refused, row-record-numbers, row-record-refused}
 use Rattle.list.proofs.Numbers.{list-numbers, list-refused}
 use Rattle.feed.proofs.Entries.{entry-whole}
-use Rattle.feed.proofs.Numbers.{ask-numbers, ask-refused, entry-call-numbers}
+use Rattle.feed.proofs.Numbers.{entry-call-numbers}
+use Rattle.ask.proofs.Numbers.{ask-numbers, ask-refused}
 use Rattle.demands.specs.Calls.{Reading, table-count, journal-count, check, row-record, row-record-number, open-journals, live-rows, list}
 use Rattle.demands.specs.Calls.{Writing, calls, entry, entries, PublicCall, writes, reads, ask, readNumber, written, numberOf, readRefusals, writeRefusals, refusalsOf}
 use Rattle.demands.specs.Demand1.{ReadRefusal, RefusalOf, Answers}

@@ -28,9 +28,9 @@ use Rattle.books.specs.declared.Checked.{Checked}
 use Rattle.books.specs.declared.Counted.{Counted}
 use Rattle.books.specs.declared.LiveRows.{LiveRows}
 use Rattle.books.specs.declared.OpenJournals.{OpenJournals}
-use Rattle.feed.specs.Ask.{askCall}
+use Rattle.ask.specs.Ask.{askCall}
 use Rattle.feed.specs.Entry.{AfterFeeding, enter, entryCall, feedFrom, feedCall}
-use Rattle.feed.specs.declared.ask.Ask.{Ask}
+use Rattle.ask.specs.declared.Ask.{Ask}
 use Rattle.demands.proofs.Demand2.{demand-2}
 use Rattle.demands.proofs.WorkedBooks.{spoilt, worked-books, rebuild-worked}
 

@@ -13,7 +13,7 @@ use Rattle.books.specs.RowRecord.{rowRecordRefusals, rowRecordNumberCall}
 use Rattle.books.specs.Runs.{Call, called, refusals}
 use Rattle.books.specs.TableCount.{tableCountRefusals, tableCountCall}
 use Rattle.list.specs.ListCall.{Asked, listRefusals, listCall}
-use Rattle.feed.specs.Ask.{askRefusals, askCall}
+use Rattle.ask.specs.Ask.{askRefusals, askCall}
 use Rattle.feed.specs.Entry.{AfterFeeding, entryCallRefusals, entryCall, feedCall}
 use Rattle.demands.specs.EntriesRefusals.{entriesRefusals}
 

@@ -14,7 +14,7 @@ use Rattle.books.specs.RowRecord.{rowRecordCall}
 use Rattle.books.specs.Runs.{called}
 use Rattle.books.specs.TableCount.{tableCountCall}
 use Rattle.list.specs.ListCall.{listCall}
-use Rattle.feed.specs.Ask.{askCall}
+use Rattle.ask.specs.Ask.{askCall}
 use Rattle.feed.specs.Entry.{entryCall, feedCall}
 use Rattle.demands.specs.Calls.{Reading, table-count, journal-count, check, row-record, row-record-number, open-journals, live-rows, list}
 use Rattle.demands.specs.Calls.{calls, entry, entries, PublicCall, writes, reads, ask, numberOf, refusalsOf}

@@ -1,5 +1,4 @@
 pub mod OneOutcome
-pub mod AskCases
 pub mod EntryCases
 pub mod Entering
 pub mod TakeCases

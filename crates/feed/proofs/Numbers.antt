@@ -1,4 +1,4 @@
--- The numbers of the ask, what a refused ask says, and the numbers of one entry, on sound books and on any. Assumes nothing.
+-- The numbers of one entry, on sound books and on any. Assumes nothing.
 use Prim.Native.Nat.{ℕ}
 use mathlib.Core.Path.{_≡_, refl, sym, ap, subst, _∙_}
 use mathlib.Core.Bool.{true, false, cond}
@@ -14,25 +14,14 @@ use Rattle.books.specs.Clear.{After}
 use Rattle.books.specs.Open.{openCall}
 use Rattle.books.specs.OpenJournals.{openJournalsRefusals}
 use Rattle.books.specs.Append.{appendAtCall, appendCall}
-use Rattle.books.proofs.Refusals.{first-given, refused}
+use Rattle.books.proofs.Refusals.{first-given}
 use Rattle.entries.specs.Entry.{entryOf}
 use Rattle.entries.specs.Meaning.{isBroken, entryNumber}
 use Rattle.entries.specs.declared.entry.Entry.{Entry}
 use Rattle.entries.specs.declared.entry.Entry.the-variants.{Broken, Append, Open, OpenAppend}
 use Rattle.entries.proofs.Meaning.{Asks, asks}
-use Rattle.feed.specs.Ask.{askRefusals, askCall}
 use Rattle.feed.specs.Entry.{openAppend, openAppendWhole, enter, brokenRefusal, roomRefusals, entryRefusals, enterRefusals, entryCallRefusals, entryCall}
 use Rattle.feed.proofs.EntryMeans.{enter-means, entry-means}
-
--- the ask: each number exactly under its condition and no earlier one
-pub ask-numbers : (k : ℕ) (file : List ℕ) → Given (askRefusals k file) (askCall k file .number)
-unfolding askCall
-ask-numbers k file = first-given _
-
--- a refused ask has every other number zero
-pub ask-refused : (k : ℕ) (file : List ℕ) → (askCall k file .number ≡ 0 → ⊥) → (askCall k file .quorum ≡ 0) × (askCall k file .limit ≡ 0)
-unfolding askCall
-ask-refused k file h = (refused _ _ 0 h, refused _ _ 0 h)
 
 -- one entry on the books of journals: 11, 7, 5 and 6, each exactly under its condition on the journals and no earlier one
 pub entry-numbers : (js : List (List ℕ)) (jb rb : List ℕ) → BooksOf js jb rb → (n s : ℕ) → Given (entryRefusals js n s) (entryCall jb rb n s .number)

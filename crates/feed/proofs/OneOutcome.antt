@@ -1,8 +1,7 @@
--- No second outcome fits an entry, a row of entries or an ask. Assumes nothing.
+-- No second outcome fits an entry or a row of entries. Assumes nothing.
 use Prim.Native.Nat.{ℕ}
 use mathlib.Core.List.{List}
 use Rattle.books.proofs.OneOutcome.{OneOutcome, one-outcome}
-use Rattle.feed.specs.Ask.{askCall}
 use Rattle.feed.specs.Entry.{entryCall, feedCall}
 
 pub entry-one : (jb rb : List ℕ) (n s : ℕ) → OneOutcome (entryCall jb rb n s)
@@ -10,6 +9,3 @@ entry-one jb rb n s = one-outcome (entryCall jb rb n s)
 
 pub feed-one : (jb rb entries : List ℕ) → OneOutcome (feedCall jb rb entries)
 feed-one jb rb entries = one-outcome (feedCall jb rb entries)
-
-pub ask-one : (k : ℕ) (file : List ℕ) → OneOutcome (askCall k file)
-ask-one k file = one-outcome (askCall k file)

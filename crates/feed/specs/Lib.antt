@@ -1,3 +1,2 @@
 pub mod Entry
-pub mod Ask
 pub mod Take

@@ -1,6 +1,5 @@
-// What the loading program does with its input: entries and the ask. Of the books it relies on the promises of `books` alone.
+// What the loading program does with its entries. Of the books it relies on the promises of `books` alone.
 
-mod ask;
 mod entry;
 mod take;
 
@@ -9,8 +8,6 @@ use take::Taken;
 use take::take_at;
 ghost use mathlib.Core.Path.{_≡_};
 ghost use Rattle.feed.specs.Entry.{fed, feedCall};
-pub use ask::Ask;
-pub use ask::read_ask;
 pub use entry::enter;
 
 // How many entries were taken, and the number of the refusal that ended them, or 0.

@@ -8,8 +8,8 @@ use mathlib.Core.List.{List, [], _∷_, _++_, append-nil, cons≢nil, List·Mem�
 use lib.ListN.{length, take, drop}
 use Rattle.words.specs.Listing.{past}
 use Rattle.words.specs.Order.{Ascending}
-use Rattle.list.specs.Next.{fromThere}
-use Rattle.list.proofs.FromOn.{from-suffix, from-here, past-drop}
+use Rattle.next_word.specs.Next.{fromThere}
+use Rattle.next_word.proofs.FromOn.{from-suffix, from-here, past-drop}
 
 -- d is an end of l
 abbrev pub EndOf : List (List ℕ) → List (List ℕ) → Type 0

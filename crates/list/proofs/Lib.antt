@@ -1,9 +1,6 @@
 pub mod Complete
 pub mod Parts
 pub mod Numbers
-pub mod FromOn
-pub mod Climb
-pub mod WordMoves
 pub mod RecordBytes
 pub mod PasteLoop
 pub mod Ends

@@ -23,8 +23,8 @@ use Rattle.books.proofs.Checks.{check-sound, checked-sizes, seen-refused, seen-
 use Rattle.books.proofs.JournalCountCases.{word-wrong, word-counted, word-room}
 use Rattle.books.proofs.Refusals.{pass, neither, refused}
 use Rattle.list.specs.ListCall.{Asked, wrongOutput, listRefusals, dueIn, due, fitting, wrote, written, listCall}
-use Rattle.list.specs.Moving.{WordIfAfter}
-use Rattle.list.specs.Next.{fromThere, tableOf}
+use Rattle.list.specs.AfterWord.{WordIfAfter}
+use Rattle.next_word.specs.Next.{fromThere, tableOf}
 use Rattle.list.proofs.Ends.{EndOf, end-there}
 use Rattle.list.proofs.TableOf.{same-list, empty-count}
 

@@ -17,8 +17,8 @@ use Rattle.records.specs.WordRecord.{wordRecord}
 use Rattle.records.proofs.Flat.{flat-snoc}
 use Rattle.records.proofs.StepBytes.{step-bytes-length}
 use Rattle.list.specs.ListCall.{written}
-use Rattle.list.specs.Moving.{stepsIn, moved, Fit}
-use Rattle.list.specs.declared.word.Moved.{Moved}
+use Rattle.next_word.specs.Moving.{stepsIn, moved, Fit}
+use Rattle.next_word.specs.declared.word.Moved.{Moved}
 use Rattle.list.proofs.Ends.{EndOf, next-in, none-in, past-in}
 
 -- the part of 16 bytes from byte k on, lent to be written, is back

@@ -21,7 +21,7 @@ use Rattle.books.proofs.BookSizes.{both-sized}
 use Rattle.books.proofs.Checks.{sound-sizes}
 use Rattle.books.proofs.Counts.{table-count-right}
 use Rattle.books.proofs.TableCountCases.{count-step}
-use Rattle.list.specs.Next.{tableOf}
+use Rattle.next_word.specs.Next.{tableOf}
 
 -- a word's front is a word
 front-word : (w v : List ℕ) → IsWord (w ++ v) → IsWord w

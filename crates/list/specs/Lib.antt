@@ -1,4 +1,3 @@
 pub mod ListCall
 pub mod Parts
-pub mod Next
-pub mod Moving
+pub mod AfterWord

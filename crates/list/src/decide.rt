@@ -1,14 +1,14 @@
 // Deciding the list's number, which only reads, and the first word that is due.
 
-use crate::search::first_from;
-use crate::search::next_word;
-use crate::word::Moved;
-use crate::word::Word;
 use books::number::DONE;
 use books::number::WRONG_LENGTH;
 use books::number::WRONG_QUORUM;
 use books::number::WRONG_SIZE;
 use books::number::WRONG_WORD;
+use next_word::Moved;
+use next_word::Word;
+use next_word::first_from;
+use next_word::next_word;
 use records::LONGEST_WORD;
 use records::WORD_RECORD;
 ghost use mathlib.Core.Path.{_≡_};
@@ -23,8 +23,9 @@ ghost use Rattle.records.specs.WordRecord.{wordOf};
 ghost use Rattle.books.specs.Numbers.{first};
 ghost use Rattle.books.specs.JournalCount.{journalCountCall};
 ghost use Rattle.list.specs.ListCall.{asked, wrongOutput, listRefusals, dueIn};
-ghost use Rattle.list.specs.Next.{tableOf};
-ghost use Rattle.list.specs.Moving.{stepsIn, moved, Fit, WordIfAfter};
+ghost use Rattle.list.specs.AfterWord.{WordIfAfter};
+ghost use Rattle.next_word.specs.Next.{tableOf};
+ghost use Rattle.next_word.specs.Moving.{stepsIn, moved, Fit};
 
 // The most bytes that an output may have.
 const LARGEST_OUTPUT: usize = 65536;

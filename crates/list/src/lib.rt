@@ -1,9 +1,7 @@
-// The list of the words that a quorum of the journals shares, fetched in parts. It relies on the promises of `books` alone.
+// The list of the words that a quorum of the journals shares, fetched in parts. It relies on the promises of `books` and `next_word` alone.
 
 mod decide;
 mod page;
-mod search;
-mod word;
 
 use books::number::DONE;
 use decide::decide;

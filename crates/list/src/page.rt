@@ -1,8 +1,8 @@
 // One part of the list: words written into the output, every word into its own 16 bytes.
 
-use crate::search::next_word;
-use crate::word::Moved;
-use crate::word::Word;
+use next_word::Moved;
+use next_word::Word;
+use next_word::next_word;
 use records::WORD_RECORD;
 ghost use mathlib.Core.Path.{_≡_};
 ghost use Prim.Native.Nat.{_/_, _≤_};
@@ -12,8 +12,8 @@ ghost use Rattle.records.specs.Sizes.{wordRecordSize, longestWord};
 ghost use Rattle.words.specs.Listing.{listOf, Falling};
 ghost use Rattle.records.specs.WordRecord.{wordRecord};
 ghost use Rattle.list.specs.ListCall.{written};
-ghost use Rattle.list.specs.Next.{fromThere, tableOf};
-ghost use Rattle.list.specs.Moving.{stepsIn, moved, Fit};
+ghost use Rattle.next_word.specs.Next.{fromThere, tableOf};
+ghost use Rattle.next_word.specs.Moving.{stepsIn, moved, Fit};
 
 // How many words were written, and whether a further one remains.
 pub(crate) struct Page {

@@ -6,7 +6,7 @@ use lib.ListN.{length, take, replicate}
 use Rattle.records.specs.JournalBook.{journalsOf}
 use Rattle.records.specs.Sizes.{journalBookSize, rowBookSize}
 use Rattle.feed.specs.Entry.{feedCall}
-use Rattle.feed.proofs.AskCases.{ask-enough}
+use Rattle.ask.proofs.AskCases.{ask-enough}
 use Rattle.feed.proofs.Enough.{bytes-enough}
 use Rattle.load.specs.Program.{printed}
 

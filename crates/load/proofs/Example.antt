@@ -12,7 +12,7 @@ use Rattle.books.specs.Open.{openCall}
 use Rattle.books.specs.Append.{appendAtCall, appendCall}
 use Rattle.entries.specs.Entry.{entryOf}
 use Rattle.feed.specs.Entry.{openAppend, openAppendWhole, enter, entryCall, feedFrom, feedCall}
-use Rattle.feed.specs.Ask.{askCall}
+use Rattle.ask.specs.Ask.{askCall}
 use Rattle.text.specs.Text.{decimal, firstLine, wordLine, lastLine}
 use Rattle.load.specs.Program.{printed}
 

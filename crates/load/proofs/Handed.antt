@@ -14,13 +14,13 @@ use Rattle.records.specs.Sound.{BooksOf}
 use Rattle.records.proofs.Sound.{books-journals, books-sound, sound-books}
 use Rattle.books.specs.declared.Counted.{Counted}
 use Rattle.books.proofs.Counts.{table-count-right}
-use Rattle.feed.specs.Ask.{askCall}
+use Rattle.ask.specs.Ask.{askCall}
 use Rattle.feed.specs.Entry.{AfterFeeding, feedCall}
-use Rattle.feed.specs.declared.ask.Ask.{Ask}
+use Rattle.ask.specs.declared.Ask.{Ask}
 use Rattle.feed.proofs.FeedMeans.{loaded}
 use Rattle.text.specs.Text.{firstLine, wordLine, lastLine}
 use Rattle.list.specs.ListCall.{Asked, asked, wholeList}
-use Rattle.list.specs.Next.{tableOf}
+use Rattle.next_word.specs.Next.{tableOf}
 use Rattle.list.specs.Parts.{wordsIn, part, joined, Fetched}
 use Rattle.list.proofs.Complete.{list-complete}
 use Rattle.list.proofs.Parts.{parts}

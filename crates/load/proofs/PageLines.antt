@@ -18,7 +18,7 @@ use Rattle.books.specs.TableCount.{tableCountCall}
 use Rattle.text.specs.Text.{wordLine}
 use Rattle.text.specs.Lines.{lineOf}
 use Rattle.text.specs.declared.Line.{Line}
-use Rattle.list.specs.Next.{tableOf}
+use Rattle.next_word.specs.Next.{tableOf}
 use Rattle.load.specs.Program.{lineBy}
 use Rattle.load.specs.Page.{pageLines}
 

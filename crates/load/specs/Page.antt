@@ -5,7 +5,7 @@ use Rattle.records.specs.Bytes.{records}
 use Rattle.records.specs.Sizes.{wordRecordSize}
 use Rattle.records.specs.WordRecord.{wordOf}
 use Rattle.list.specs.ListCall.{Asked}
-use Rattle.list.specs.Next.{tableOf}
+use Rattle.next_word.specs.Next.{tableOf}
 use Rattle.list.specs.Parts.{part}
 use Rattle.load.specs.Program.{wordLines}
 

@@ -12,8 +12,8 @@ use Rattle.records.specs.Sizes.{journalBookSize, rowBookSize}
 use Rattle.books.specs.Numbers.{done}
 use Rattle.records.specs.JournalBook.{journalsOf}
 use Rattle.feed.specs.Entry.{AfterFeeding, feedCall}
-use Rattle.feed.specs.Ask.{askCall}
-use Rattle.feed.specs.declared.ask.Ask.{Ask}
+use Rattle.ask.specs.Ask.{askCall}
+use Rattle.ask.specs.declared.Ask.{Ask}
 use Rattle.text.specs.Text.{firstLine, wordLine, lastLine, refusedEntryLine, refusedAskLine}
 
 -- a word's line, by a count of words

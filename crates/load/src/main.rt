@@ -46,7 +46,7 @@ fn answer(journals: &[u8], rows: &[u8]) {
     // The count of the empty word is the greatest quorum, and the one that stands where none is asked.
     let counted = reading::table_count(rows, &rows[..0]);
     let most = counted.count as usize;
-    let ask = feed::read_ask(most, &file[..n]);
+    let ask = ask::read_ask(most, &file[..n]);
     let number = ask.number;
     if number != DONE {
         print_line(text::refused_ask_line(number));

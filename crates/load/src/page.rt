@@ -11,7 +11,7 @@ ghost use lib.ListN.{length, drop};
 ghost use lib.Seq.{paste};
 ghost use Rattle.records.specs.Sizes.{wordRecordSize};
 ghost use Rattle.records.specs.WordRecord.{wordOf};
-ghost use Rattle.list.specs.Next.{tableOf};
+ghost use Rattle.next_word.specs.Next.{tableOf};
 ghost use Rattle.text.specs.Lines.{lineOf, lineSize};
 ghost use Rattle.load.specs.Page.{pageLines};
 ghost use Rattle.load.specs.Program.{lineBy};

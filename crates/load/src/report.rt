@@ -2,8 +2,8 @@
 
 use crate::page::least;
 use crate::page::page_text;
+use ask::Ask;
 use books::number::DONE;
-use feed::Ask;
 use lent_bytes::sixteen_at;
 use libc::STDOUT_FILENO;
 use records::WORD_RECORD;

@@ -1,8 +1,8 @@
 -- `list::list` meets its contract: the number is decided first; then the first word that is due is sought, and the page from it on is the page of what
 -- is due, since that is an end of the list by the table count, which on sound books is the list of the journals. Assumes nothing.
 use Rattle.words.specs.Listing.{Falling}
-use Rattle.list.specs.Moving.{moved}
-use Rattle.list.specs.Next.{tableOf}
+use Rattle.next_word.specs.Moving.{moved}
+use Rattle.next_word.specs.Next.{tableOf}
 use Rattle.list.specs.ListCall.{Asked, asked}
 use Rattle.list.proofs.ListCases.{Allowed, list-allowed, list-wrong, list-done, due-first}
 use Rattle.list.proofs.TableOf.{table-falls}

@@ -10,7 +10,7 @@ use borrow.Author.Tests.{eq-eqb, ne-eqb}
 use Rattle.books.specs.declared.Checked.{Checked}
 use Rattle.books.specs.Check.{checkCall}
 use Rattle.list.specs.ListCall.{Asked, asked, wrongOutput}
-use Rattle.list.specs.Next.{tableOf}
+use Rattle.next_word.specs.Next.{tableOf}
 use Rattle.list.proofs.ListCases.{Seen, size-wrong, books-wrong, limit-wrong, quorum-wrong, word-refused, word-taken, word-unasked}
 use borrow.Author.Needs.{needs}
 use Rattle.list.proofs.decide.decide.Statement.{statement}

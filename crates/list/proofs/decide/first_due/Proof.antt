@@ -8,8 +8,8 @@ use lib.ListN.{take}
 use Rattle.words.specs.Listing.{listOf, past}
 use Rattle.words.specs.Words.{IsWord}
 use Rattle.records.proofs.StepBytes.{form-steps}
-use Rattle.list.specs.Next.{fromOn, tableOf}
-use Rattle.list.proofs.FromOn.{from-empty}
+use Rattle.next_word.specs.Next.{fromOn, tableOf}
+use Rattle.next_word.proofs.FromOn.{from-empty}
 use borrow.Author.Needs.{needs}
 use Rattle.list.proofs.decide.first_due.Statement.{statement}
 use Rattle.list.proofs.decide.first_due.Tie as tie

@@ -5,7 +5,7 @@ use lib.Dec.{ltb}
 use borrow.Author.Needs.{needs}
 use borrow.Author.Tests.{lt-ltb, le-ltb}
 use Rattle.books.specs.declared.Counted.{Counted}
-use Rattle.list.specs.Next.{tableOf}
+use Rattle.next_word.specs.Next.{tableOf}
 use Rattle.list.proofs.decide.wrong_quorum.Statement.{statement}
 use Rattle.list.proofs.decide.wrong_quorum.Tie as tie
 

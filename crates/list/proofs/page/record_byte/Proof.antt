@@ -5,7 +5,7 @@ use lib.ListN.{length, getD}
 use native.Mathlib.Omega.{arith}
 use borrow.Author.Needs.{needs}
 use Rattle.records.specs.WordRecord.{wordRecord}
-use Rattle.list.specs.Moving.{stepsIn}
+use Rattle.next_word.specs.Moving.{stepsIn}
 use Rattle.list.proofs.RecordBytes.{record-length-byte, record-step-byte, record-zero-byte}
 use Rattle.list.proofs.page.record_byte.Statement.{statement}
 use Rattle.list.proofs.page.record_byte.Tie as tie

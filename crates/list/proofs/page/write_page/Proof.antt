@@ -10,8 +10,8 @@ use borrow.Author.Tests.{not-true, not-false}
 use Rattle.words.specs.Listing.{listOf}
 use Rattle.records.specs.WordRecord.{wordRecord}
 use Rattle.words.proofs.Dictionary.{list-ascending}
-use Rattle.list.specs.Moving.{stepsIn, moved}
-use Rattle.list.specs.Next.{fromThere, tableOf}
+use Rattle.next_word.specs.Moving.{stepsIn, moved}
+use Rattle.next_word.specs.Next.{fromThere, tableOf}
 use Rattle.list.proofs.Ends.{there-end}
 use Rattle.list.proofs.Paging.{PageAt, page-start, page-length, page-turn, page-stop, page-full, part-back}
 use Rattle.list.proofs.page.write_page.Statement.{statement}

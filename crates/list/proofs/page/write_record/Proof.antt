@@ -8,7 +8,7 @@ use lib.Seq.{paste, paste-zero}
 use borrow.Author.Needs.{needs}
 use Rattle.records.specs.WordRecord.{wordRecord}
 use Rattle.records.proofs.StepBytes.{step-bytes-length}
-use Rattle.list.specs.Moving.{stepsIn}
+use Rattle.next_word.specs.Moving.{stepsIn}
 use Rattle.list.proofs.PasteLoop.{pasted-more, pasted-all}
 use Rattle.list.proofs.page.write_record.Statement.{statement}
 use Rattle.list.proofs.page.write_record.Tie as tie

@@ -1,0 +1,3 @@
+pub mod FromOn
+pub mod Climb
+pub mod WordMoves
