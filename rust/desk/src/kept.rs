@@ -31,7 +31,7 @@ pub fn refused(source: &Source, books: &Books, error: Error) -> Failure {
     Failure::refused_as(Part::Books(source.clone()), error, why)
 }
 
-/// Loads entries and keeps their books. A refused entry leaves the file as it was.
+/// Loads entries and keeps their books. Where an entry is refused, nothing is written.
 pub fn load(source: &Source, file: &Path) -> Result<(), Failure> {
     let books = entries::books(source)?;
     keep(&books, file)

@@ -1,7 +1,7 @@
 //! A write that is broken off: the old books stand there or the new ones, and never a mix.
 
 use crate::folder::{entries, kept, Folder, ONE, TWO};
-use crate::ran::{command, command_behind, run};
+use crate::ran::{command, command_behind, run, run_in};
 use plain::JOURNAL_BOOK;
 use std::fs;
 use std::process::Stdio;
@@ -62,7 +62,7 @@ fn killed_at_any_moment() {
     folder.put("two", &entries(&TWO));
     let begun = Instant::now();
     let first = ["load", "one", "--books", "b"];
-    run(command(folder.path(), &first), b"").is_done("");
+    run_in(&folder, &first, b"").is_done("");
     let whole = begun.elapsed();
     let (mut ones, mut twos) = (0, 0);
     for turn in 0..200 {

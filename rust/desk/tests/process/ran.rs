@@ -1,5 +1,6 @@
 //! One run of the program.
 
+use crate::folder::Folder;
 use std::ffi::OsStr;
 use std::io::Write;
 use std::os::unix::process::ExitStatusExt;
@@ -90,18 +91,17 @@ pub fn command_behind(ready: &str, folder: &Path, words: &[&str]) -> Command {
     command
 }
 
-/// Runs a command with some bytes as its input. It need not read them.
-pub fn run(mut command: Command, input: &[u8]) -> Ran {
-    command
-        .stdin(Stdio::piped())
-        .stdout(Stdio::piped())
-        .stderr(Stdio::piped());
-    let mut child = command.spawn().expect("it starts");
-    let _ = child.stdin.take().expect("a pipe").write_all(input);
-    Ran::new(child.wait_with_output().expect("it ends"))
+/// Runs a command of the program in a folder, with some bytes as its input.
+pub fn run_in(folder: &Folder, words: &[&str], input: &[u8]) -> Ran {
+    run(command(folder.path(), words), input)
 }
 
-/// Runs a command with its output going elsewhere.
+/// Runs a command with some bytes as its input. It need not read them.
+pub fn run(command: Command, input: &[u8]) -> Ran {
+    run_into(command, input, Stdio::piped())
+}
+
+/// The same with its output going elsewhere.
 pub fn run_into(mut command: Command, input: &[u8], output: impl Into<Stdio>) -> Ran {
     command
         .stdin(Stdio::piped())

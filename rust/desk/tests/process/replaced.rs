@@ -1,17 +1,14 @@
 //! The file of books: what it has in it, and that it is replaced in its own place.
 
 use crate::folder::{entries, kept, Folder, ONE, TWO};
-use crate::ran::{command, command_behind, run, Ran};
+use crate::ran::{command_behind, run, run_in, Ran};
 use plain::JOURNAL_BOOK;
 use std::fs::{self, Permissions};
 use std::os::unix::fs::{symlink, FileTypeExt, PermissionsExt};
 use std::process::Command;
 
 fn load(folder: &Folder, books: &str) -> Ran {
-    run(
-        command(folder.path(), &["load", "--books", books]),
-        &entries(&TWO),
-    )
+    run_in(folder, &["load", "--books", books], &entries(&TWO))
 }
 
 fn mode(folder: &Folder, name: &str) -> u32 {
@@ -30,9 +27,9 @@ fn books_are_kept() {
     folder.put("e", &entries(&ONE));
     let path = folder.join("old");
     let path = path.to_str().expect("plain text");
-    run(command(folder.path(), &["load", "e", "--books", path]), b"").is_done("");
+    run_in(&folder, &["load", "e", "--books", path], b"").is_done("");
     folder.has("old", &kept(&ONE));
-    run(command(folder.path(), &["load", "--books", "new"]), b"").is_done("");
+    run_in(&folder, &["load", "--books", "new"], b"").is_done("");
     folder.has("new", &[0; 68_096]);
     assert_eq!(folder.names(), ["e", "new", &"n".repeat(255), "old"]);
 }
@@ -48,11 +45,11 @@ fn books_are_rebuilt() {
         bytes[JOURNAL_BOOK..].fill(byte);
         for books in ["b", "link"] {
             folder.put("b", &bytes);
-            run(command(folder.path(), &["rebuild", "--books", books]), b"").is_done("");
+            run_in(&folder, &["rebuild", "--books", books], b"").is_done("");
             folder.has("b", &due);
         }
     }
-    run(command(folder.path(), &["rebuild", "--books=b"]), b"").is_done("");
+    run_in(&folder, &["rebuild", "--books=b"], b"").is_done("");
     folder.has("b", &due);
     assert!(fs::read_link(folder.join("link")).is_ok());
     assert_eq!(folder.names(), ["b", "link"]);

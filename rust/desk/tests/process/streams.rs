@@ -1,7 +1,7 @@
 //! Input that can't be read, output that can't be written, and those that have no end.
 
 use crate::folder::{entries, kept, Folder, TWO};
-use crate::ran::{command, run, run_into, PROGRAM};
+use crate::ran::{command, run_in, run_into, PROGRAM};
 use std::fs::{File, OpenOptions};
 use std::io::{Read, Write};
 use std::process::{Command, Stdio};
@@ -125,14 +125,10 @@ fn a_list_without_end() {
 fn an_input_without_end() {
     let folder = Folder::new("an_input_without_end");
     let zero = "/dev/zero";
-    run(command(folder.path(), &["list", zero]), b"").is_refused(5, "refused 5 record 200\n");
-    run(command(folder.path(), &["load", zero, "--books", "b"]), b"").is_refused(5, "");
-    run(command(folder.path(), &["check", "--books", zero]), b"").is_refused(1, "");
-    run(
-        command(folder.path(), &["list", "--ask", zero]),
-        &entries(&TWO),
-    )
-    .is_refused(12, "refused 12 ask\n");
+    run_in(&folder, &["list", zero], b"").is_refused(5, "refused 5 record 200\n");
+    run_in(&folder, &["load", zero, "--books", "b"], b"").is_refused(5, "");
+    run_in(&folder, &["check", "--books", zero], b"").is_refused(1, "");
+    run_in(&folder, &["list", "--ask", zero], &entries(&TWO)).is_refused(12, "refused 12 ask\n");
     assert!(folder.names().is_empty());
 }
 
@@ -150,7 +146,7 @@ fn a_file_that_cannot_be_read() {
             &["check", "--books", name],
         ];
         for words in commands {
-            let ran = run(command(folder.path(), words), b"");
+            let ran = run_in(&folder, words, b"");
             assert_eq!(
                 (ran.status, &ran.printed[..]),
                 (Some(2), ""),
@@ -158,11 +154,7 @@ fn a_file_that_cannot_be_read() {
             );
         }
     }
-    run(
-        command(folder.path(), &["list", "--ask", "."]),
-        &entries(&TWO),
-    )
-    .has_failed(".");
+    run_in(&folder, &["list", "--ask", "."], &entries(&TWO)).has_failed(".");
     assert_eq!(folder.names(), ["b", "damaged"]);
 }
 
