@@ -8,7 +8,7 @@ use std::path::Path;
 use std::process::{Command, Output, Stdio};
 
 /// The built program.
-pub const PROGRAM: &str = env!("CARGO_BIN_EXE_selquorin");
+const PROGRAM: &str = env!("CARGO_BIN_EXE_selquorin");
 
 /// How a run ended.
 #[derive(Debug, PartialEq, Eq)]
@@ -21,7 +21,7 @@ pub struct Ran {
 }
 
 impl Ran {
-    fn new(output: Output) -> Ran {
+    pub fn new(output: Output) -> Ran {
         let text = |bytes| String::from_utf8(bytes).expect("it prints plain text");
         Ran {
             status: output.status.code(),
@@ -48,9 +48,9 @@ impl Ran {
         assert_eq!(self.said.lines().count(), 1, "{self:?}");
     }
 
-    /// Reading or writing failed, which the last line that is said tells.
+    /// Reading or writing failed, which the last line that is said tells. Nothing is printed.
     pub fn has_failed(&self, what: &str) {
-        assert_eq!(self.status, Some(2), "{self:?}");
+        assert_eq!((self.status, &self.printed[..]), (Some(2), ""), "{self:?}");
         let last = self.said.lines().last().unwrap_or_default();
         assert!(
             last.starts_with(&format!("selquorin: {what}: ")),

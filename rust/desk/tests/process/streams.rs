@@ -1,10 +1,10 @@
 //! Input that can't be read, output that can't be written, and those that have no end.
 
 use crate::folder::{entries, kept, Folder, TWO};
-use crate::ran::{command, run_in, run_into, PROGRAM};
+use crate::ran::{command, run_in, run_into, Ran};
 use std::fs::{File, OpenOptions};
 use std::io::{Read, Write};
-use std::process::{Command, Stdio};
+use std::process::Stdio;
 
 /// Commands that print, with what they read.
 const PRINTING: [&[&str]; 8] = [
@@ -68,34 +68,22 @@ fn a_refusal_is_said_though_it_cannot_be_printed() {
 #[test]
 fn a_closed_pipe() {
     let folder = folder("a_closed_pipe");
-    for words in [
-        &["list"][..],
-        &["count"],
-        &["list", "--quorum", "9"],
-        &["check", "--books", "-"],
-    ] {
+    let commands: [(&[&str], Vec<u8>); 4] = [
+        (&["list"], entries(&TWO)),
+        (&["list", "--quorum", "9"], entries(&TWO)),
+        (&["count"], entries(&TWO)),
+        (&["check", "--books", "-"], kept(&TWO)),
+    ];
+    for (words, input) in commands {
         let mut command = command(folder.path(), words);
-        command
-            .stdin(Stdio::piped())
-            .stdout(Stdio::piped())
-            .stderr(Stdio::piped());
-        let mut child = command.spawn().expect("it starts");
+        command.stdin(Stdio::piped()).stdout(Stdio::piped());
+        let mut child = command.stderr(Stdio::piped()).spawn().expect("it starts");
         drop(child.stdout.take());
-        let input = if words[0] == "check" {
-            kept(&TWO)
-        } else {
-            entries(&TWO)
-        };
         let mut pipe = child.stdin.take().expect("a pipe");
         pipe.write_all(&input).expect("it reads");
         drop(pipe);
-        let output = child.wait_with_output().expect("it ends");
-        let said = String::from_utf8_lossy(&output.stderr);
-        assert_eq!(output.status.code(), Some(2), "{said}");
-        assert!(
-            said.contains("selquorin: standard output: ") && !said.contains("panicked"),
-            "{said}"
-        );
+        let ran = Ran::new(child.wait_with_output().expect("it ends"));
+        ran.has_failed("standard output");
     }
 }
 
@@ -116,8 +104,8 @@ fn a_list_without_end() {
         &begin[..],
         b"texts 1 rows 201\n0 1\n1 1 0\n2 1 0 0\n3 1 0 0 0"
     );
-    let output = child.wait_with_output().expect("it ends");
-    assert_eq!(output.status.code(), Some(2));
+    let ran = Ran::new(child.wait_with_output().expect("it ends"));
+    ran.has_failed("standard output");
 }
 
 /// No more is read than can matter.
@@ -136,25 +124,20 @@ fn an_input_without_end() {
 fn a_file_that_cannot_be_read() {
     let folder = folder("a_file_that_cannot_be_read");
     for name in ["missing", "."] {
-        let commands: [&[&str]; 7] = [
+        let commands: [&[&str]; 8] = [
             &["list", name],
             &["list", "--books", name],
-            &["list", "b/..", "--ask", name],
+            &["list", "--ask", name],
             &["count", "--from", name],
             &["count", "16", "--books", name],
             &["load", name, "--books", "new"],
             &["check", "--books", name],
+            &["rebuild", "--books", name],
         ];
         for words in commands {
-            let ran = run_in(&folder, words, b"");
-            assert_eq!(
-                (ran.status, &ran.printed[..]),
-                (Some(2), ""),
-                "{words:?}: {ran:?}"
-            );
+            run_in(&folder, words, b"").has_failed(name);
         }
     }
-    run_in(&folder, &["list", "--ask", "."], &entries(&TWO)).has_failed(".");
     assert_eq!(folder.names(), ["b", "damaged"]);
 }
 
@@ -173,15 +156,9 @@ fn a_standard_input_that_cannot_be_read() {
         &["check", "--books=-"],
     ] {
         for input in inputs {
-            let mut command = Command::new(PROGRAM);
-            command
-                .args(words)
-                .current_dir(folder.path())
-                .stdin(input());
-            let output = command.output().expect("it runs");
-            let said = String::from_utf8_lossy(&output.stderr);
-            assert_eq!(output.status.code(), Some(2), "{said}");
-            assert!(said.starts_with("selquorin: standard input: ") && output.stdout.is_empty());
+            let mut command = command(folder.path(), words);
+            let output = command.stdin(input()).output().expect("it runs");
+            Ran::new(output).has_failed("standard input");
         }
     }
     folder.has("b", &kept(&TWO));
