@@ -8,7 +8,7 @@ use std::io::{self, Write};
 /// Why a run wasn't done.
 #[derive(Debug)]
 pub enum Failure {
-    /// A number of document 01.
+    /// Refused, with its number.
     Refused(Refusal),
     /// Something couldn't be read or written.
     Stream {
