@@ -21,7 +21,7 @@ SOURCES = [path for ending in ("rt", "antt", "py", "rs", "h", "c") for path in g
 ELSEWHERE = re.compile(r"ask\.bin|Cargo\.toml|.*….*|target/.*|lib\w+\.a|/dev/\w+")
 FILE = re.compile(r"[\w.*/-]+/[\w.*/-]*|[\w-]+\.(md|rt|antt|edit|py|sh|rs|h|c|txt|bin|toml)")
 NAME = re.compile(r"[A-Za-z][\w'-]*")
-KEYWORDS = r"pub(?:\(crate\))?|abbrev|unfoldable|record|data|unsafe|extern \"C\"|fn|struct|enum|const|mod|impl|def|class|static|inline|uint\d+_t|#define"
+KEYWORDS = r"pub(?:\(crate\))?|abbrev|unfoldable|record|data|unsafe|extern \"C\"|fn|struct|enum|const|type|mod|impl|def|class|static|inline|uint\d+_t|#define"
 DECLARED = re.compile(rf"^[ ]*(?:(?:{KEYWORDS})[ ]+)*([A-Za-z][\w'-]*)", re.M)
 
 

@@ -41,31 +41,6 @@ pub record Allowed (a : Asked) : Type 0 where
 form-length : (r : List ℕ) → length r ≡ 16 → wordForm r ≡ true → length (wordOf r) ≡ getD r 0 0
 form-length r l f = length-take-le (getD r 0 0) (drop 1 r) (omega (arith, word-room r f, length-drop 1 r))
 
-pub allowed : (a : Asked) → listCall a .answer .number ≡ 0 → Allowed a
-unfolding listCall
-allowed a e =
-    let books : Bool = not (rightSizes (a .journals) (a .rows)) in
-    let size : Bool = not (eqb (length (a .word)) wordRecordSize) in
-    let wrong : Bool = not (wordForm (a .word)) || ltb (a .length-limit) (length (wordOf (a .word))) in
-    let p = pass (books || (size || wrongOutput (a .out))) 0 _ e in
-    let q = pass (not (sound (a .journals) (a .rows))) 1 _ (p .1) in
-    let r = pass (ltb longestWord (a .length-limit)) 8 _ (q .1) in
-    let k = pass (ltb (a .quorum) 1 || ltb (length (journalsOf (a .journals))) (a .quorum)) 7 _ (r .1) in
-    let w = pass (a .after && wrong) 9 _ (k .1) in
-    let o = neither size (wrongOutput (a .out)) (neither books _ (p .0) .1) in
-    let s = neither (ltb (length (a .out)) wordRecordSize) _ (neither (not (eqb (length (a .out) % wordRecordSize) 0)) _ (o .1) .1) .0 in
-    let l = eqb-true (length (a .word)) wordRecordSize (not-false _ (o .0)) in
-    record {
-      sizes = not-false _ (neither books _ (p .0) .0);
-      right = not-false _ (q .0);
-      limit = ltb-false _ _ (r .0);
-      quorum = k .0;
-      some-room = omega (arith, ltb-false (length (a .out)) wordRecordSize s);
-      word = λ y. let v = neither (not (wordForm (a .word))) _ (rw y at (w .0)) in
-          let f = not-false _ (v .0) in
-          (l, f, omega (arith, form-length (a .word) l f, ltb-false (a .length-limit) (length (wordOf (a .word))) (v .1)));
-    }
-
 module _ (a : Asked) where
   abbrev jb : List ℕ
   jb = a .journals
@@ -148,10 +123,35 @@ module _ (a : Asked) where
         pub word-unasked : after ≡ false → 0 ≡ first (listRefusals a)
         word-unasked y = sym (behind ∙ rw (le-ltb 15 n h, sym quorum-said ∙ k, y))
 
+  pub allowed : listCall a .answer .number ≡ 0 → Allowed a
+  unfolding listCall
+  allowed e =
+      let books : Bool = not (rightSizes (a .journals) (a .rows)) in
+      let size : Bool = not (eqb (length (a .word)) wordRecordSize) in
+      let wrong : Bool = not (wordForm (a .word)) || ltb (a .length-limit) (length (wordOf (a .word))) in
+      let p = pass (books || (size || wrongOutput (a .out))) 0 _ e in
+      let b = pass (not (sound (a .journals) (a .rows))) 1 _ (p .1) in
+      let m = pass (ltb longestWord (a .length-limit)) 8 _ (b .1) in
+      let k = pass (ltb (a .quorum) 1 || ltb (length (journalsOf (a .journals))) (a .quorum)) 7 _ (m .1) in
+      let w = pass (a .after && wrong) 9 _ (k .1) in
+      let o = neither size (wrongOutput (a .out)) (neither books _ (p .0) .1) in
+      let s = neither (ltb (length (a .out)) wordRecordSize) _ (neither (not (eqb (length (a .out) % wordRecordSize) 0)) _ (o .1) .1) .0 in
+      let l = eqb-true (length (a .word)) wordRecordSize (not-false _ (o .0)) in
+      record {
+        sizes = not-false _ (neither books _ (p .0) .0);
+        right = not-false _ (b .0);
+        limit = ltb-false _ _ (m .0);
+        quorum = k .0;
+        some-room = omega (arith, ltb-false (length (a .out)) wordRecordSize s);
+        word = λ y. let v = neither (not (wordForm (a .word))) _ (rw y at (w .0)) in
+            let f = not-false _ (v .0) in
+            (l, f, omega (arith, form-length (a .word) l f, ltb-false (a .length-limit) (length (wordOf (a .word))) (v .1)));
+      }
+
   -- what stands when nothing is refused
   pub list-allowed : (m : ℕ) → m ≡ first (listRefusals a) → m ≡ 0 → Allowed a
   unfolding listCall
-  list-allowed m e z = allowed a (sym e ∙ z)
+  list-allowed m e z = allowed (sym e ∙ z)
 
   -- the call refused
   pub list-wrong : (m : ℕ) → m ≡ first (listRefusals a) → (m ≡ 0 → ⊥) → wrote (record { number = m; written = 0; more = false }) out ≡ listCall a
@@ -183,7 +183,7 @@ module _ (a : Asked) where
   unfolding listCall
   list-done k c v m t w more o x y z =
       let e : first (listRefusals a) ≡ 0 = sym c ∙ v in
-      let s : fromThere m listed ≡ due a = from-due m t ∙ ap (λ (l : List (List ℕ)). dueIn l after r) (same-list jb rb (allowed a e .right) q n) in
+      let s : fromThere m listed ≡ due a = from-due m t ∙ ap (λ (l : List (List ℕ)). dueIn l after r) (same-list jb rb (allowed e .right) q n) in
       let b : w ≡ length (fitting a) = x ∙ ap (λ (l : List (List ℕ)). length (take (length out / 16) l)) s in
       let u : more ≡ ltb (length (fitting a)) (length (due a)) = y ∙ ap₂ (λ (i : ℕ) (l : List (List ℕ)). ltb i (length l)) b s in
       let f : o ≡ written (fitting a) out = z ∙ ap (λ (l : List (List ℕ)). written (take (length out / 16) l) out) s in

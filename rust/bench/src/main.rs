@@ -13,7 +13,7 @@ const HEADER: &str = "\
 Time of one call, in microseconds: the proved library's, the plain implementation's, and the first
 as a part of the second. Books of up to 995 rows, so that one more append is taken; both sides get
 the same bytes. Open, append, check and list include the check of both books that comes first.
-Append, open: a call that is done, on books set anew each time; the setting isn't timed.
+Append, open, rebuild: a call that is done, on books set anew each time; the setting isn't timed.
 Check: of sound books. Counts: of words of up to 15 steps that some journal holds, a call's mean.
 List: a page of up to 4,096 words, quorum 1, length 15, from the start.
 Each time is the least of 25, which other work on the machine disturbs least; the two take turns.";
@@ -102,9 +102,108 @@ fn taken(journals: &[u8], rows: &[u8]) -> Option<u8> {
     (0..16).find(|&step| plain::append(&mut journals.to_vec(), &mut rows.to_vec(), step) == 0)
 }
 
-fn line(name: &str, call: &str, (library, plain): (f64, f64), note: &str) {
-    let ratio = library / plain;
-    println!("{name:<42} {call:<14} {library:>10.2} {plain:>10.2} {ratio:>7.2}  {note}");
+/// Books to time calls on.
+struct Case {
+    name: String,
+    opened: Vec<Journal>,
+    journals: Vec<u8>,
+    rows: Vec<u8>,
+}
+
+impl Case {
+    fn new(random: &mut Random, kind: Kind) -> Case {
+        let opened = near_full(random, kind, 995);
+        let states = live_states(&opened).map_or(0, |states| states.len());
+        Case {
+            name: format!("{}, {} rows", kind.name, states),
+            journals: journal_book(&opened),
+            rows: picture(&opened).expect("there are few enough states"),
+            opened,
+        }
+    }
+
+    fn line(&self, call: &str, (library, plain): (f64, f64), note: &str) {
+        let (name, ratio) = (&self.name, library / plain);
+        println!("{name:<42} {call:<14} {library:>10.2} {plain:>10.2} {ratio:>7.2}  {note}");
+    }
+
+    /// The calls that take both books.
+    fn time_books(&self) {
+        let fresh = || (self.journals.clone(), self.rows.clone());
+        match taken(&self.journals, &self.rows) {
+            Some(step) => {
+                let times = both(
+                    fresh,
+                    |(j, r)| assert_eq!(raw::append(j, r, step), 0),
+                    |(j, r)| assert_eq!(plain::append(j, r, step), 0),
+                );
+                self.line("append", times, "");
+            }
+            None => println!("{:<42} append: none is taken", self.name),
+        }
+        let times = both(
+            fresh,
+            |(j, r)| assert_eq!(raw::open(j, r), 0),
+            |(j, r)| assert_eq!(plain::open(j, r), 0),
+        );
+        self.line("open", times, "");
+        let times = both(
+            fresh,
+            |(j, r)| assert_eq!(raw::rebuild(j, r), 0),
+            |(j, r)| assert_eq!(plain::rebuild(j, r), 0),
+        );
+        self.line("rebuild", times, "");
+        let times = both(
+            fresh,
+            |(j, r)| assert_eq!(raw::check(j, r).number, 0),
+            |(j, r)| assert_eq!(plain::check(j, r).number, 0),
+        );
+        self.line("check", times, "");
+    }
+
+    /// Both counts, of the same words.
+    fn time_counts(&self, words: &[Vec<u8>]) {
+        let by_table = |count: &dyn Fn(&[u8], &[u8]) -> u8| {
+            for word in words {
+                assert_ne!(count(black_box(&self.rows), word), 0);
+            }
+        };
+        let times = both(
+            || (),
+            |()| by_table(&|rows, word| raw::table_count(rows, word).count),
+            |()| by_table(&|rows, word| plain::table_count(rows, word).count),
+        );
+        self.line("table count", per_word(times), "");
+        let records: Vec<[u8; 16]> = words.iter().map(|word| record(word)).collect();
+        let by_journals = |count: &dyn Fn(&[u8], &[u8]) -> u8| {
+            for record in &records {
+                assert_ne!(count(black_box(&self.journals), record), 0);
+            }
+        };
+        let times = both(
+            || (),
+            |()| by_journals(&|journals, record| raw::journal_count(journals, record).count),
+            |()| by_journals(&|journals, record| plain::journal_count(journals, record).count),
+        );
+        self.line("journal count", per_word(times), "");
+    }
+
+    fn time_list(&self) {
+        let (journals, rows) = (&self.journals, &self.rows);
+        let mut written = 0;
+        let times = both(
+            || vec![0; 65_536],
+            |out| written = raw::list(journals, rows, 1, 15, 0, &[0; 16], out).written,
+            |out| {
+                plain::list(journals, rows, 1, 15, false, &[0; 16], out);
+            },
+        );
+        self.line("list", times, &format!("{written} words"));
+    }
+}
+
+fn per_word((library, plain): (f64, f64)) -> (f64, f64) {
+    (library / WORDS as f64, plain / WORDS as f64)
 }
 
 fn main() {
@@ -115,78 +214,9 @@ fn main() {
     );
     let mut random = Random::new(3);
     for kind in KINDS {
-        let opened = near_full(&mut random, kind, 995);
-        let journals = journal_book(&opened);
-        let rows = picture(&opened).expect("there are few enough states");
-        let states = live_states(&opened).map_or(0, |states| states.len());
-        let name = format!("{}, {} rows", kind.name, states);
-        let fresh = || (journals.clone(), rows.clone());
-
-        match taken(&journals, &rows) {
-            Some(step) => {
-                let times = both(
-                    fresh,
-                    |(j, r)| assert_eq!(raw::append(j, r, step), 0),
-                    |(j, r)| assert_eq!(plain::append(j, r, step), 0),
-                );
-                line(&name, "append", times, "");
-            }
-            None => println!("{name:<42} append: none is taken"),
-        }
-        let times = both(
-            fresh,
-            |(j, r)| assert_eq!(raw::open(j, r), 0),
-            |(j, r)| assert_eq!(plain::open(j, r), 0),
-        );
-        line(&name, "open", times, "");
-        let times = both(
-            fresh,
-            |(j, r)| assert_eq!(raw::check(j, r).number, 0),
-            |(j, r)| assert_eq!(plain::check(j, r).number, 0),
-        );
-        line(&name, "check", times, "");
-
-        let words = words(&mut random, &opened);
-        let per_word = |(a, b): (f64, f64)| (a / WORDS as f64, b / WORDS as f64);
-        let times = both(
-            || (),
-            |()| {
-                for word in &words {
-                    assert_ne!(raw::table_count(black_box(&rows), word).count, 0);
-                }
-            },
-            |()| {
-                for word in &words {
-                    assert_ne!(plain::table_count(black_box(&rows), word).count, 0);
-                }
-            },
-        );
-        line(&name, "table count", per_word(times), "");
-        let records: Vec<[u8; 16]> = words.iter().map(|word| record(word)).collect();
-        let times = both(
-            || (),
-            |()| {
-                for record in &records {
-                    assert_ne!(raw::journal_count(black_box(&journals), record).count, 0);
-                }
-            },
-            |()| {
-                for record in &records {
-                    assert_ne!(plain::journal_count(black_box(&journals), record).count, 0);
-                }
-            },
-        );
-        line(&name, "journal count", per_word(times), "");
-
-        let mut written = 0;
-        let times = both(
-            || vec![0; 65_536],
-            |out| written = raw::list(&journals, &rows, 1, 15, 0, &[0; 16], out).written,
-            |out| {
-                plain::list(&journals, &rows, 1, 15, false, &[0; 16], out);
-            },
-        );
-        let note = format!("{written} words");
-        line(&name, "list", times, &note);
+        let case = Case::new(&mut random, kind);
+        case.time_books();
+        case.time_counts(&words(&mut random, &case.opened));
+        case.time_list();
     }
 }

@@ -31,6 +31,50 @@ fn number(name: &str, otherwise: u64) -> u64 {
     }
 }
 
+/// What was seen in all runs, and where the two sides differed.
+#[derive(Default)]
+struct All {
+    seen: Seen,
+    calls: u64,
+    runs: u64,
+    differences: Vec<String>,
+}
+
+impl All {
+    /// Makes a run, and says whether there have been enough calls, or a difference.
+    fn made(all: &Mutex<All>, seed: u64, number: u64, least: u64) -> bool {
+        let ran = std::panic::catch_unwind(|| run(seed, number));
+        let mut all = all.lock().expect("no thread fails here");
+        all.runs += 1;
+        let difference = match ran {
+            Err(_) => Some("one of the two panicked".to_string()),
+            Ok((seen, calls, difference)) => {
+                all.calls += calls;
+                all.seen.add(seen);
+                difference.map(|difference| difference.to_string())
+            }
+        };
+        let difference = difference.map(|difference| format!("run {number}, {difference}"));
+        all.differences.extend(difference);
+        all.calls >= least || !all.differences.is_empty()
+    }
+
+    /// Runs on two threads, until one of them sees the end.
+    fn of(seed: u64, least: u64) -> All {
+        let next = AtomicU64::new(0);
+        let all = Mutex::new(All::default());
+        std::thread::scope(|scope| {
+            for _ in 0..2 {
+                scope.spawn(|| {
+                    let number = || next.fetch_add(1, Ordering::Relaxed);
+                    while !All::made(&all, seed, number(), least) {}
+                });
+            }
+        });
+        all.into_inner().expect("no thread fails here")
+    }
+}
+
 #[test]
 fn random_runs() {
     let seed = number("SELQUORIN_SEED", SEED);
@@ -38,46 +82,19 @@ fn random_runs() {
     say(&format!(
         "compare: SELQUORIN_SEED={seed} SELQUORIN_CALLS={least}"
     ));
-
-    let next = AtomicU64::new(0);
-    let made = AtomicU64::new(0);
-    let all = Mutex::new((Seen::default(), Vec::new()));
-    std::thread::scope(|scope| {
-        for _ in 0..2 {
-            scope.spawn(|| {
-                while made.load(Ordering::Relaxed) < least {
-                    let number = next.fetch_add(1, Ordering::Relaxed);
-                    let ran = std::panic::catch_unwind(|| run(seed, number));
-                    let mut all = all.lock().expect("no thread fails here");
-                    let difference = match ran {
-                        Err(_) => Some("one of the two panicked".to_string()),
-                        Ok((seen, calls, difference)) => {
-                            made.fetch_add(calls, Ordering::Relaxed);
-                            all.0.add(seen);
-                            difference.map(|difference| difference.to_string())
-                        }
-                    };
-                    if let Some(difference) = difference {
-                        all.1.push(format!("run {number}, {difference}"));
-                        made.fetch_add(least, Ordering::Relaxed);
-                    }
-                }
-            });
-        }
-    });
-    let (seen, differences) = all.into_inner().expect("no thread fails here");
-    for difference in &differences {
+    let all = All::of(seed, least);
+    for difference in &all.differences {
         say(&format!("compare: SELQUORIN_SEED={seed} {difference}"));
     }
-    assert!(differences.is_empty(), "library and plain differ");
-    for (answer, times) in &seen.0 {
+    assert!(all.differences.is_empty(), "library and plain differ");
+    for (answer, times) in &all.seen.0 {
         say(&format!("compare: {times:>7} {answer}"));
     }
-    let (made, runs) = (made.into_inner(), next.into_inner());
-    say(&format!("compare: {made} calls in {runs} runs, all alike"));
-    let borrowed = seen.0[Seen::BORROWED];
-    assert!(2 * borrowed > made, "only {borrowed} on borrowed books");
+    let (calls, runs) = (all.calls, all.runs);
+    say(&format!("compare: {calls} calls in {runs} runs, all alike"));
+    let borrowed = all.seen.0[Seen::BORROWED];
+    assert!(2 * borrowed > calls, "only {borrowed} on borrowed books");
     if least >= LONG {
-        assert_eq!(seen.missing(), Vec::<&str>::new(), "answers never seen");
+        assert_eq!(all.seen.missing(), Vec::<&str>::new(), "answers never seen");
     }
 }

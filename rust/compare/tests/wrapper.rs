@@ -51,20 +51,27 @@ fn plain_list(
 }
 
 #[test]
+fn books_are_those_of_the_journals() {
+    let mut random = Random::new(5);
+    for _ in 0..12 {
+        let (books, journals, rows, k) = books(&mut random);
+        assert_eq!(books, BooksRef::from_bytes(&journals, &rows).unwrap());
+        assert_eq!(books.check(), Verdict::Sound);
+        assert_eq!(books.open_journals(), Ok(k));
+        let live = plain::live_rows(&journals, &rows).rows;
+        assert_eq!(books.live_rows(), Ok(live));
+        for row in 0..1000 {
+            let record = plain::row_record(&rows, row);
+            assert_eq!(books.row(row).unwrap().bytes()[..], *record);
+        }
+    }
+}
+
+#[test]
 fn pages_make_the_whole_list() {
     let mut random = Random::new(5);
     for _ in 0..12 {
         let (books, journals, rows, k) = books(&mut random);
-        assert_eq!(
-            (&books.journal_bytes()[..], &books.row_bytes()[..]),
-            (&journals[..], &rows[..])
-        );
-        assert_eq!(books.check(), Verdict::Sound);
-        assert_eq!(books.open_journals(), Ok(k));
-        assert_eq!(
-            books.live_rows(),
-            Ok(plain::live_rows(&journals, &rows).rows)
-        );
         for quorum in 1..=k {
             for length in [0, 1, 2, 4, 15] {
                 let wanted = plain_list(&journals, &rows, quorum, length, None);
@@ -81,26 +88,12 @@ fn pages_make_the_whole_list() {
                 for word in &wanted {
                     let least = Word::new(&[random.below(16) as u8; 15][..length]).unwrap();
                     for after in [word, &least] {
-                        let rest: Vec<Word> =
-                            books.list_after(quorum, length, after).unwrap().collect();
-                        assert_eq!(
-                            rest,
-                            plain_list(&journals, &rows, quorum, length, Some(after))
-                        );
+                        let rest = books.list_after(quorum, length, after).unwrap();
+                        let due = plain_list(&journals, &rows, quorum, length, Some(after));
+                        assert_eq!(rest.collect::<Vec<_>>(), due);
                     }
                 }
-                for word in &whole {
-                    let count = books.table_count(word.steps()).unwrap();
-                    assert!(usize::from(count) >= quorum);
-                    assert_eq!(books.journal_count(word), Ok(count));
-                }
             }
-        }
-        for row in 0..1000 {
-            assert_eq!(
-                books.row(row).unwrap().bytes()[..],
-                *plain::row_record(&rows, row)
-            );
         }
     }
 }
@@ -155,19 +148,24 @@ fn words_have_their_counts() {
     for _ in 0..12 {
         let (books, mut journals, mut rows, k) = books(&mut random);
         for quorum in 1..=k {
-            let words = plain_list(&journals, &rows, quorum, 4, None);
+            let words = plain_list(&journals, &rows, quorum, 15, None);
             let codes = |word: &Word| word.record()[1..=word.len()].to_vec();
             let count = |word: &Word| plain::table_count(&rows, &codes(word)).count;
             let wanted: Vec<(Word, u8)> = words.iter().map(|word| (*word, count(word))).collect();
-            for page in [1, 3, LARGEST_PAGE] {
-                let words = books.list_paged(quorum, 4, None, page).unwrap();
+            for page in [7, LARGEST_PAGE] {
+                let words = books.list_paged(quorum, 15, None, page).unwrap();
                 let hint = words.size_hint();
                 let counted = words.with_counts();
                 assert_eq!(counted.size_hint(), hint);
                 assert_eq!(counted.collect::<Vec<_>>(), wanted);
             }
+            for (word, count) in &wanted {
+                assert!(usize::from(*count) >= quorum);
+                assert_eq!(books.table_count(word.steps()), Ok(*count));
+                assert_eq!(books.journal_count(word), Ok(*count));
+            }
             let borrowed = BooksMut::from_bytes(&mut journals, &mut rows).unwrap();
-            let counted = borrowed.list(quorum, 4).unwrap().with_counts();
+            let counted = borrowed.list(quorum, 15).unwrap().with_counts();
             assert_eq!(counted.collect::<Vec<_>>(), wanted);
         }
     }
@@ -261,8 +259,8 @@ fn a_full_row_book_takes_no_step_more() {
     assert!(books == before);
 }
 
-#[test]
-fn damage_is_found_where_it_is() {
+/// The books of two small journals, and a word that both hold.
+fn two_journals() -> (Books, Word) {
     let mut books = Books::new();
     for journal in [[1, 2, 1], [1, 1, 2]] {
         books.open().unwrap();
@@ -270,9 +268,12 @@ fn damage_is_found_where_it_is() {
             books.append(Step::new(code).unwrap()).unwrap();
         }
     }
-    let sound = books.clone();
-    let word = Word::new(&[1, 2]).unwrap();
+    (books, Word::new(&[1, 2]).unwrap())
+}
 
+#[test]
+fn damage_of_the_row_book_is_found_where_it_is() {
+    let (mut books, word) = two_journals();
     books.row_bytes_mut()[64 * 2 + 48] = 17;
     assert_eq!(books.check(), Verdict::RowRecord { row: 2, byte: 48 });
     assert_eq!(books.table_count(word.steps()), Err(Error::Damaged));
@@ -282,8 +283,14 @@ fn damage_is_found_where_it_is() {
     assert_eq!(books.open(), Err(Error::Damaged));
     assert_eq!(books.append(Step::default()), Err(Error::Damaged));
     assert_eq!(books.list(1, 1).err(), Some(Error::Damaged));
+    books.clear();
+    assert!(books == Books::default());
+    assert_eq!(books.check(), Verdict::Sound);
+}
 
-    books = sound.clone();
+#[test]
+fn damage_of_the_journal_book_is_found_where_it_is() {
+    let (mut books, word) = two_journals();
     books.journal_bytes_mut()[256 * 3] = 1;
     assert_eq!(books.check(), Verdict::JournalRecord { record: 3 });
     assert_eq!(books.table_count(word.steps()), Ok(2));
@@ -292,15 +299,14 @@ fn damage_is_found_where_it_is() {
     assert_eq!(books.journals().err(), Some(Error::Damaged));
     assert_eq!(books.journal(0), Err(Error::Damaged));
     assert_eq!(books.live_rows(), Err(Error::Damaged));
+}
 
-    books = sound.clone();
+#[test]
+fn too_many_states_are_told() {
+    let (mut books, _) = two_journals();
     let many = journal_book(&many_states());
     books.journal_bytes_mut().copy_from_slice(&many);
     assert_eq!(books.check(), Verdict::TooManyStates);
     assert_eq!(books.open_journals(), Ok(16));
     assert_eq!(books.live_rows(), Err(Error::Damaged));
-
-    books.clear();
-    assert!(books == Books::default());
-    assert_eq!(books.check(), Verdict::Sound);
 }

@@ -34,16 +34,22 @@ fn names(steps: &[Step]) -> String {
     steps.iter().map(name).collect::<Vec<_>>().join(" ")
 }
 
-/// The books of the six journals.
-fn load() -> Result<Books, Error> {
+/// The books of some journals.
+fn books_of(journals: &[Vec<Step>]) -> Result<Books, Error> {
     let mut books = Books::new();
-    for (_, journal) in JOURNALS {
+    for journal in journals {
         books.open()?;
-        for step in steps(journal)? {
+        for &step in journal {
             books.append(step)?;
         }
     }
     Ok(books)
+}
+
+/// The books of the six sites.
+fn six_sites() -> Result<Books, Error> {
+    let journals = JOURNALS.iter().map(|(_, names)| steps(names));
+    books_of(&journals.collect::<Result<Vec<_>, Error>>()?)
 }
 
 /// The sites whose journals lack a word: those whose place is lost in the row that it leads to.
@@ -89,16 +95,11 @@ fn print_trim(books: &Books, order: &str) -> Result<(), Error> {
     Ok(())
 }
 
-/// Books with 1,000 rows: four sites with 200 steps each, and one with 199, that share no step.
+/// Books with 1,000 rows: of five sites with 999 steps that share none.
 fn full() -> Result<Books, Error> {
-    let mut books = Books::new();
-    for (code, length) in [(0, 200), (1, 200), (2, 200), (3, 200), (4, 199)] {
-        books.open()?;
-        for _ in 0..length {
-            books.append(Step::new(code)?)?;
-        }
-    }
-    Ok(books)
+    let journal = |(code, length)| Ok(vec![Step::new(code)?; length]);
+    let journals = (0..).zip([200, 200, 200, 200, 199]).map(journal);
+    books_of(&journals.collect::<Result<Vec<_>, Error>>()?)
 }
 
 /// What the desk tried, and what was answered.
@@ -106,15 +107,10 @@ type Tried = (&'static str, Result<(), Error>);
 
 /// All that is refused by the library.
 fn tried() -> Result<Vec<Tried>, Error> {
-    let books = load()?;
+    let books = six_sites()?;
     let step = steps("sync")?[0];
     let mut flipped = books.clone();
     flipped.row_bytes_mut()[48] ^= 1;
-    let mut long = Books::new();
-    long.open()?;
-    (0..200).try_for_each(|_| long.append(step))?;
-    let mut many = Books::new();
-    (0..16).try_for_each(|_| many.open())?;
     Ok(vec![
         (
             "books from a file that was cut short",
@@ -126,9 +122,9 @@ fn tried() -> Result<Vec<Tried>, Error> {
         ),
         ("step 16", Step::new(16).map(drop)),
         ("a step before any journal", Books::new().append(step)),
-        ("a 201st step", long.append(step)),
+        ("a 201st step", books_of(&[vec![step; 200]])?.append(step)),
         ("a 1,001st row", full()?.append(Step::new(4)?)),
-        ("a 17th site", many.open()),
+        ("a 17th site", books_of(&vec![vec![]; 16])?.open()),
         ("a quorum of 7", books.list(7, 2).map(drop)),
         ("orders of up to 16 steps", books.list(4, 16).map(drop)),
         ("an order of 16 steps", Word::new(&[0; 16]).map(drop)),
@@ -173,7 +169,7 @@ fn main() -> Result<(), Error> {
     for (site, journal) in JOURNALS {
         println!("  {site}: {journal}");
     }
-    let books = load()?;
+    let books = six_sites()?;
     print_shared(&books)?;
     println!("May a site that has seen an order trim its log?");
     print_trim(&books, "apply sync")?;
