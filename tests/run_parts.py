@@ -52,7 +52,10 @@ def difference(seen, due):
 
 def wrong_run(program, script, due):
     """What a run does wrong, or None."""
-    ran = subprocess.run(program, input=script, capture_output=True, timeout=MOST_SECONDS)
+    try:
+        ran = subprocess.run(program, input=script, capture_output=True, timeout=MOST_SECONDS)
+    except subprocess.TimeoutExpired:
+        return f"did not end within {MOST_SECONDS} s"
     if ran.returncode or ran.stderr:
         return f"ended with {ran.returncode}, {ran.stderr[:60]!r}"
     return None if ran.stdout == due else difference(ran.stdout, due)
