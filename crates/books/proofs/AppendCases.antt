@@ -33,6 +33,35 @@ module _ (jb rb : List ℕ) (i s : ℕ) where
   abbrev longer : List (List ℕ)
   longer = appendedAt i s (journalsOf jb)
 
+  -- the early numbers by what the code asks, in its order
+  more : List Refusal
+  more =
+      record { holds = leb 16 s; number = 3 }
+      ∷ record { holds = leb (length (journalsOf jb)) i; number = 4 }
+      ∷ record { holds = leb 200 (stepsAt i (journalsOf jb)); number = 5 }
+      ∷ []
+
+  module _ (e : checkCall jb rb .number ≡ 0) where
+    pub append-step : 16 ≤ s → 3 ≡ first (earlyRefusals jb rb i s)
+    unfolding more
+    append-step h = sym (seen-sound jb rb more e ∙ rw (le-leb 16 s h))
+
+    pub append-none : s < 16 → length (journalsOf jb) ≤ i → 4 ≡ first (earlyRefusals jb rb i s)
+    unfolding more
+    append-none h n = sym (seen-sound jb rb more e ∙ rw (lt-leb 16 s h, le-leb (length (journalsOf jb)) i n))
+
+    pub append-long : s < 16 → i < length (journalsOf jb) → 200 ≤ stepsAt i (journalsOf jb) → 5 ≡ first (earlyRefusals jb rb i s)
+    unfolding more
+    append-long h n l = sym (seen-sound jb rb more e ∙ rw (lt-leb 16 s h, lt-leb (length (journalsOf jb)) i n, le-leb 200 (stepsAt i (journalsOf jb)) l))
+
+    pub append-free : s < 16 → i < length (journalsOf jb) → stepsAt i (journalsOf jb) < 200 → 0 ≡ first (earlyRefusals jb rb i s)
+    unfolding more
+    append-free h n l = sym (seen-sound jb rb more e ∙ rw (lt-leb 16 s h, lt-leb (length (journalsOf jb)) i n, lt-leb 200 (stepsAt i (journalsOf jb)) l))
+
+  pub append-seen : (checkCall jb rb .number ≡ 0 → ⊥) → checkCall jb rb .number ≡ first (earlyRefusals jb rb i s)
+  unfolding more
+  append-seen h = seen-refused jb rb more h
+
   -- the books hold journals, journal i is one of them and has room, and the step is a code
   pub record CanAppend : Type 0 where
     pub books : BooksOf (journalsOf jb) jb rb
@@ -62,35 +91,6 @@ module _ (jb rb : List ℕ) (i s : ℕ) where
         form = parts-of jb rb t .0;
         others = λ qs. rw (p1 .0, p2 .0, p3 .0, p4 .0, p5 .0);
       }
-
-  -- the early numbers by what the code asks, in its order
-  more : List Refusal
-  more =
-      record { holds = leb 16 s; number = 3 }
-      ∷ record { holds = leb (length (journalsOf jb)) i; number = 4 }
-      ∷ record { holds = leb 200 (stepsAt i (journalsOf jb)); number = 5 }
-      ∷ []
-
-  pub append-seen : (checkCall jb rb .number ≡ 0 → ⊥) → checkCall jb rb .number ≡ first (earlyRefusals jb rb i s)
-  unfolding more
-  append-seen h = seen-refused jb rb more h
-
-  module _ (e : checkCall jb rb .number ≡ 0) where
-    pub append-step : 16 ≤ s → 3 ≡ first (earlyRefusals jb rb i s)
-    unfolding more
-    append-step h = sym (seen-sound jb rb more e ∙ rw (le-leb 16 s h))
-
-    pub append-none : s < 16 → length (journalsOf jb) ≤ i → 4 ≡ first (earlyRefusals jb rb i s)
-    unfolding more
-    append-none h n = sym (seen-sound jb rb more e ∙ rw (lt-leb 16 s h, le-leb (length (journalsOf jb)) i n))
-
-    pub append-long : s < 16 → i < length (journalsOf jb) → 200 ≤ stepsAt i (journalsOf jb) → 5 ≡ first (earlyRefusals jb rb i s)
-    unfolding more
-    append-long h n l = sym (seen-sound jb rb more e ∙ rw (lt-leb 16 s h, lt-leb (length (journalsOf jb)) i n, le-leb 200 (stepsAt i (journalsOf jb)) l))
-
-    pub append-free : s < 16 → i < length (journalsOf jb) → stepsAt i (journalsOf jb) < 200 → 0 ≡ first (earlyRefusals jb rb i s)
-    unfolding more
-    append-free h n l = sym (seen-sound jb rb more e ∙ rw (lt-leb 16 s h, lt-leb (length (journalsOf jb)) i n, lt-leb 200 (stepsAt i (journalsOf jb)) l))
 
   -- the call: refused early, or left to the writer
   pub append-refused : (n : ℕ) → n ≡ first (earlyRefusals jb rb i s) → (n ≡ 0 → ⊥) → after n jb rb ≡ appendAtCall jb rb i s

@@ -24,19 +24,19 @@ module _ (js : List (List ℕ)) where
   rows-fit m = rw (le-ltb 1000 (length (picture js)) m)
 
 module _ (js : List (List ℕ)) (jb rb : List ℕ) where
+  -- the writer, done and refused
+  pub write-done : done ≡ first (rowsRefusal js ∷ []) → after done (journalBook js) (rowBook js) ≡ writeCall js jb rb
+  unfolding writeCall
+  write-done e = ap (λ (k : ℕ). written k js jb rb) e
+
   -- a number that was given before anything is written
   pub written-refused : (n m : ℕ) → n ≡ m → (n ≡ 0 → ⊥) → after n jb rb ≡ written m js jb rb
   written-refused n m e h =
       ap₂ (after n) (sym (refused n (journalBook js) jb h)) (sym (refused n (rowBook js) rb h)) ∙ ap (λ (k : ℕ). written k js jb rb) e
 
-  -- the writer, refused and done
   pub write-refused : (n : ℕ) → n ≡ first (rowsRefusal js ∷ []) → (n ≡ 0 → ⊥) → after n jb rb ≡ writeCall js jb rb
   unfolding writeCall
   write-refused n e h = written-refused n (first (rowsRefusal js ∷ [])) e h
-
-  pub write-done : done ≡ first (rowsRefusal js ∷ []) → after done (journalBook js) (rowBook js) ≡ writeCall js jb rb
-  unfolding writeCall
-  write-done e = ap (λ (k : ℕ). written k js jb rb) e
 
   -- no such number: what the writer does is what the call does
   pub written-last : (m : ℕ) → m ≡ first (rowsRefusal js ∷ []) → writeCall js jb rb ≡ written m js jb rb
