@@ -8,6 +8,7 @@ ghost use lib.Seq.{paste};
 ghost use Rattle.words.specs.Limits.{stepCodes};
 ghost use Rattle.records.specs.Sizes.{rowBookSize, rowRecordSize, mostRows};
 ghost use Rattle.records.specs.RowBook.{rowRecord, behindCount, placesAt, arcAt, arcsAt, countAt};
+use lent_bytes::put_sixteen;
 use lent_bytes::sixteen_at;
 use records::ARCS;
 use records::COUNT;
@@ -69,15 +70,11 @@ pub fn read_row(rows: &[u8], r: usize) -> Row
     }
 }
 
-// One byte of a row's record.
+// One byte of a row's record behind the places.
 fn row_byte(row: Row, c: usize) -> u8
-    requires { ⌜ c < rowRecordSize ⌝ }
+    requires { ⌜ (16 ≤ c) × (c < rowRecordSize) ⌝ }
     ensures { λ x. ⌜ x ≡ getD (rowRecord (row .places) (row .arcs) (row .count) behindCount) c 0 ⌝ }
 {
-    if c < ARCS {
-        let places = row.places;
-        return places[c];
-    }
     if c < COUNT {
         let arcs = row.arcs;
         let arc = arcs[(c - ARCS) / 2];
@@ -92,10 +89,10 @@ fn row_byte(row: Row, c: usize) -> u8
     0
 }
 
-// Writes sixteen bytes of a row's record, those from `first` on, into the record that begins at `at`. `first` is a fixed number
-// in each call, so that the compiler can leave out the tests of `row_byte`.
+// Writes sixteen bytes of a row's record, those from `first` on, none of them a place; the record begins at `at`. Each call has
+// a fixed `first`, so that the compiler can leave out the tests of `row_byte`.
 fn write_sixteen(rows: &mut [u8], at: usize, row: Row, first: usize)
-    requires { ⌜ (at + rowRecordSize ≤ length (now rows)) × (first + 16 ≤ rowRecordSize) ⌝ }
+    requires { ⌜ (at + rowRecordSize ≤ length (now rows)) × (16 ≤ first) × (first + 16 ≤ rowRecordSize) ⌝ }
     ensures { λ _. ⌜ now (rows .exit) ≡ paste (now (rows .entry)) (at + first) (drop first (rowRecord (row .places) (row .arcs) (row .count) behindCount)) 16 ⌝ }
 {
     let mut i = 0;
@@ -110,7 +107,8 @@ pub fn write_row(rows: &mut [u8], at: usize, row: Row)
     requires { ⌜ at + rowRecordSize ≤ length (now rows) ⌝ }
     ensures { λ _. ⌜ now (rows .exit) ≡ take at (now (rows .entry)) ++ (rowRecord (row .places) (row .arcs) (row .count) behindCount ++ drop (at + rowRecordSize) (now (rows .entry))) ⌝ }
 {
-    write_sixteen(rows, at, row, 0);
+    let places = row.places;
+    put_sixteen(rows, at, places);
     write_sixteen(rows, at, row, 16);
     write_sixteen(rows, at, row, 32);
     write_sixteen(rows, at, row, 48);
