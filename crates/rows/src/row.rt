@@ -4,9 +4,11 @@ ghost use mathlib.Core.Path.{_≡_};
 ghost use mathlib.Core.List.{_++_};
 ghost use Prim.Native.Nat.{_+_, _≤_, _<_};
 ghost use lib.ListN.{length, take, drop, getD};
+ghost use lib.Seq.{paste};
 ghost use Rattle.words.specs.Limits.{stepCodes};
 ghost use Rattle.records.specs.Sizes.{rowBookSize, rowRecordSize, mostRows};
 ghost use Rattle.records.specs.RowBook.{rowRecord, behindCount, placesAt, arcAt, arcsAt, countAt};
+use lent_bytes::put_sixteen;
 use lent_bytes::sixteen_at;
 use records::ARCS;
 use records::COUNT;
@@ -68,15 +70,11 @@ pub fn read_row(rows: &[u8], r: usize) -> Row
     }
 }
 
-// One byte of a row's record.
+// One byte of a row's record behind the places.
 fn row_byte(row: Row, c: usize) -> u8
-    requires { ⌜ c < rowRecordSize ⌝ }
+    requires { ⌜ (16 ≤ c) × (c < rowRecordSize) ⌝ }
     ensures { λ x. ⌜ x ≡ getD (rowRecord (row .places) (row .arcs) (row .count) behindCount) c 0 ⌝ }
 {
-    if c < ARCS {
-        let places = row.places;
-        return places[c];
-    }
     if c < COUNT {
         let arcs = row.arcs;
         let arc = arcs[(c - ARCS) / 2];
@@ -91,14 +89,27 @@ fn row_byte(row: Row, c: usize) -> u8
     0
 }
 
+// Writes sixteen bytes of a row's record, those from `first` on, none of them a place; the record begins at `at`. Each call has
+// a fixed `first`, so that the compiler can leave out the tests of `row_byte`.
+fn write_sixteen(rows: &mut [u8], at: usize, row: Row, first: usize)
+    requires { ⌜ (at + rowRecordSize ≤ length (now rows)) × (16 ≤ first) × (first + 16 ≤ rowRecordSize) ⌝ }
+    ensures { λ _. ⌜ now (rows .exit) ≡ paste (now (rows .entry)) (at + first) (drop first (rowRecord (row .places) (row .arcs) (row .count) behindCount)) 16 ⌝ }
+{
+    let mut i = 0;
+    while i < 16 {
+        rows[at + first + i] = row_byte(row, first + i);
+        i += 1;
+    }
+}
+
 // Writes a row's record from a byte on.
 pub fn write_row(rows: &mut [u8], at: usize, row: Row)
     requires { ⌜ at + rowRecordSize ≤ length (now rows) ⌝ }
     ensures { λ _. ⌜ now (rows .exit) ≡ take at (now (rows .entry)) ++ (rowRecord (row .places) (row .arcs) (row .count) behindCount ++ drop (at + rowRecordSize) (now (rows .entry))) ⌝ }
 {
-    let mut c = 0;
-    while c < ROW_RECORD {
-        rows[at + c] = row_byte(row, c);
-        c += 1;
-    }
+    let places = row.places;
+    put_sixteen(rows, at, places);
+    write_sixteen(rows, at, row, 16);
+    write_sixteen(rows, at, row, 32);
+    write_sixteen(rows, at, row, 48);
 }
