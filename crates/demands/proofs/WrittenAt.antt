@@ -11,7 +11,8 @@ use Rattle.records.specs.Sizes.{wordRecordSize, longestWord}
 use Rattle.records.specs.WordRecord.{wordRecord}
 use Rattle.records.proofs.Flat.{Wide}
 use Rattle.records.proofs.StepBytes.{step-bytes-length}
-use Rattle.list.specs.ListCall.{Asked, due, fitting, written, listCall}
+use Rattle.page.specs.Written.{written}
+use Rattle.list.specs.ListCall.{Asked, due, fitting, listCall}
 use Rattle.list.proofs.Parts.{listed}
 use Rattle.demands.specs.Taken.{Taken}
 use Rattle.demands.specs.WrittenAt.{WrittenAt}

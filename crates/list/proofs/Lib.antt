@@ -1,9 +1,5 @@
 pub mod Complete
 pub mod Parts
 pub mod Numbers
-pub mod RecordBytes
-pub mod PasteLoop
-pub mod Ends
-pub mod Paging
 pub mod TableOf
 pub mod ListCases

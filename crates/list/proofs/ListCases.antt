@@ -22,10 +22,11 @@ use Rattle.books.specs.Numbers.{Refusal, first}
 use Rattle.books.proofs.Checks.{check-sound, checked-sizes, seen-refused, seen-sound}
 use Rattle.books.proofs.JournalCountCases.{word-wrong, word-counted, word-room}
 use Rattle.books.proofs.Refusals.{pass, neither, refused}
-use Rattle.list.specs.ListCall.{Asked, wrongOutput, listRefusals, dueIn, due, fitting, wrote, written, listCall}
+use Rattle.page.specs.Written.{written}
+use Rattle.list.specs.ListCall.{Asked, wrongOutput, listRefusals, dueIn, due, fitting, wrote, listCall}
 use Rattle.list.specs.AfterWord.{WordIfAfter}
 use Rattle.next_word.specs.Next.{fromThere, tableOf}
-use Rattle.list.proofs.Ends.{EndOf, end-there}
+use Rattle.page.proofs.Ends.{EndOf, end-there}
 use Rattle.list.proofs.TableOf.{same-list, empty-count}
 
 -- what a call that is done was given

@@ -1,17 +1,17 @@
 -- The list call: what it answers and writes. Assumes nothing.
-use Prim.Native.Nat.{ℕ, _*_, _/_, _%_}
+use Prim.Native.Nat.{ℕ, _/_, _%_}
 use mathlib.Core.Bool.{Bool, false, cond, not, _&&_, _||_}
-use mathlib.Core.List.{List, [], _∷_, _++_}
-use lib.ListN.{length, take, drop}
+use mathlib.Core.List.{List, [], _∷_}
+use lib.ListN.{length, take}
 use lib.Dec.{eqb, ltb}
 use Rattle.words.specs.Words.{count}
 use Rattle.words.specs.Listing.{listOf, past}
 use Rattle.records.specs.Sizes.{wordRecordSize, longestWord}
 use Rattle.books.specs.Numbers.{Refusal, first, wrongSize, damaged, wrongLength, wrongQuorum, wrongWord, unless}
-use Rattle.records.specs.Bytes.{flat}
 use Rattle.records.specs.JournalBook.{journalsOf}
 use Rattle.records.specs.Sound.{rightSizes, sound}
-use Rattle.records.specs.WordRecord.{wordForm, wordOf, wordRecord}
+use Rattle.records.specs.WordRecord.{wordForm, wordOf}
+use Rattle.page.specs.Written.{written}
 use Rattle.list.specs.declared.Listed.{Listed}
 
 -- the most bytes that an output may have
@@ -75,10 +75,6 @@ pub record Wrote : Type 0 where
 
 abbrev pub wrote : Listed → List ℕ → Wrote
 wrote r out = record { answer = r; out = out }
-
--- a record for each word, one behind the other; what stands behind them is left as it was
-abbrev pub written : List (List ℕ) → List ℕ → List ℕ
-written ws out = flat wordRecord ws ++ drop (wordRecordSize * length ws) out
 
 -- The answer: how many words were written, and whether there are more. Refused, it writes none and says "no".
 unfoldable pub listCall : Asked → Wrote

@@ -1,7 +1,6 @@
-// The list of the words that a quorum of the journals shares, fetched in parts. It relies on the promises of `books` and `next_word` alone.
+// The list of the words that a quorum of the journals shares, fetched in parts. It relies on the promises of `books`, `next_word` and `page` alone.
 
 mod decide;
-mod page;
 
 use books::number::DONE;
 use decide::decide;

@@ -6,7 +6,7 @@ use native.Mathlib.Omega.{arith}
 use lib.ListN.{length, take, drop, getD, replicate, length-set, length-drop}
 use lib.Seq.{paste, getD-drop}
 use borrow.Author.Needs.{needs}
-use Rattle.list.proofs.PasteLoop.{pasted-more, pasted-all}
+use Rattle.page.proofs.PasteLoop.{pasted-more, pasted-all}
 use Rattle.list.proofs.decide.read_word.Statement.{statement}
 use Rattle.list.proofs.decide.read_word.Tie as tie
 

@@ -1,4 +1,4 @@
--- `list::page::record_byte` meets its contract: byte 0 is the length, the next ones are the steps, and the others zero. Assumes nothing.
+-- `page::record_byte` meets its contract: byte 0 is the length, the next ones are the steps, and the others zero. Assumes nothing.
 use Prim.Native.Nat.{ℕ}
 use mathlib.Core.Path.{_≡_, sym, ap, _∙_}
 use lib.ListN.{length, getD}
@@ -6,9 +6,9 @@ use native.Mathlib.Omega.{arith}
 use borrow.Author.Needs.{needs}
 use Rattle.records.specs.WordRecord.{wordRecord}
 use Rattle.next_word.specs.Moving.{stepsIn}
-use Rattle.list.proofs.RecordBytes.{record-length-byte, record-step-byte, record-zero-byte}
-use Rattle.list.proofs.page.record_byte.Statement.{statement}
-use Rattle.list.proofs.page.record_byte.Tie as tie
+use Rattle.page.proofs.RecordBytes.{record-length-byte, record-step-byte, record-zero-byte}
+use Rattle.page.proofs.record_byte.Statement.{statement}
+use Rattle.page.proofs.record_byte.Tie as tie
 
 cast-result : tie.Need-cast-result
 cast-result c = search needs

@@ -11,12 +11,12 @@ ghost use lib.Dec.{ltb};
 ghost use Rattle.records.specs.Sizes.{wordRecordSize, longestWord};
 ghost use Rattle.words.specs.Listing.{listOf, Falling};
 ghost use Rattle.records.specs.WordRecord.{wordRecord};
-ghost use Rattle.list.specs.ListCall.{written};
+ghost use Rattle.page.specs.Written.{written};
 ghost use Rattle.next_word.specs.Next.{fromThere, tableOf};
 ghost use Rattle.next_word.specs.Moving.{stepsIn, moved, Fit};
 
 // How many words were written, and whether a further one remains.
-pub(crate) struct Page {
+pub struct Page {
     pub written: usize,
     pub more: bool,
 }
@@ -50,13 +50,7 @@ fn write_record(out: &mut [u8], w: Word)
 }
 
 // Writes the words of the list from the first one on, as many as fit or as remain.
-pub(crate) fn write_page(
-    rows: &[u8],
-    quorum: usize,
-    limit: usize,
-    first: Moved,
-    out: &mut [u8],
-) -> Page
+pub fn write_page(rows: &[u8], quorum: usize, limit: usize, first: Moved, out: &mut [u8]) -> Page
     requires { ⌜ (limit ≤ longestWord) × Fit limit (first .word) × Falling (tableOf (now rows)) × (moved first ≡ take 1 (fromThere (moved first) (listOf (tableOf (now rows)) quorum limit))) ⌝ }
     ensures count { λ r. ⌜ r .written ≡ length (take (length (now (out .entry)) / wordRecordSize) (fromThere (moved first) (listOf (tableOf (now (rows .entry))) quorum limit))) ⌝ }
     ensures more { λ r. ⌜ r .more ≡ ltb (r .written) (length (fromThere (moved first) (listOf (tableOf (now (rows .entry))) quorum limit))) ⌝ }

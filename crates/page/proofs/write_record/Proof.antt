@@ -1,4 +1,4 @@
--- `list::page::write_record` meets its contract. The invariant: the first i bytes of the record stand over the first i of the part, and the others
+-- `page::write_record` meets its contract. The invariant: the first i bytes of the record stand over the first i of the part, and the others
 -- are as they were. The measure is what is left of 16. Assumes nothing.
 use Prim.Native.Nat.{ℕ, _≤_, _-_}
 use mathlib.Core.Path.{_≡_, ap, _∙_}
@@ -9,9 +9,9 @@ use borrow.Author.Needs.{needs}
 use Rattle.records.specs.WordRecord.{wordRecord}
 use Rattle.records.proofs.StepBytes.{step-bytes-length}
 use Rattle.next_word.specs.Moving.{stepsIn}
-use Rattle.list.proofs.PasteLoop.{pasted-more, pasted-all}
-use Rattle.list.proofs.page.write_record.Statement.{statement}
-use Rattle.list.proofs.page.write_record.Tie as tie
+use Rattle.page.proofs.PasteLoop.{pasted-more, pasted-all}
+use Rattle.page.proofs.write_record.Statement.{statement}
+use Rattle.page.proofs.write_record.Tie as tie
 
 abbrev Inv-loop : tie.InvT-loop
 Inv-loop out₀ w i₀ out i = (i ≤ 16) × (length out ≡ length out₀) × (out ≡ paste out₀ 0 (wordRecord (stepsIn w)) i)

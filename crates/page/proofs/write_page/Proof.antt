@@ -1,4 +1,4 @@
--- `list::page::write_page` meets its contract. What is to be written is an end of the list. The invariant: i of its words stand in the output, and the
+-- `page::write_page` meets its contract. What is to be written is an end of the list. The invariant: i of its words stand in the output, and the
 -- word at hand is the next one, if there is one (`PageAt`). The measure is what is left of the room. Assumes nothing.
 use Prim.Native.Nat.{ℕ, _*_, _/_, _≤_, _-_}
 use mathlib.Core.Path.{_≡_, refl}
@@ -12,10 +12,10 @@ use Rattle.records.specs.WordRecord.{wordRecord}
 use Rattle.words.proofs.Dictionary.{list-ascending}
 use Rattle.next_word.specs.Moving.{stepsIn, moved}
 use Rattle.next_word.specs.Next.{fromThere, tableOf}
-use Rattle.list.proofs.Ends.{there-end}
-use Rattle.list.proofs.Paging.{PageAt, page-start, page-length, page-turn, page-stop, page-full, part-back}
-use Rattle.list.proofs.page.write_page.Statement.{statement}
-use Rattle.list.proofs.page.write_page.Tie as tie
+use Rattle.page.proofs.Ends.{there-end}
+use Rattle.page.proofs.Paging.{PageAt, page-start, page-length, page-turn, page-stop, page-full, part-back}
+use Rattle.page.proofs.write_page.Statement.{statement}
+use Rattle.page.proofs.write_page.Tie as tie
 
 abbrev Inv-loop : tie.InvT-loop
 Inv-loop rows quorum limit out₀ room at₀ i₀ out at i =

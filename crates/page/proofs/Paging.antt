@@ -16,10 +16,10 @@ use Rattle.records.specs.Bytes.{flat}
 use Rattle.records.specs.WordRecord.{wordRecord}
 use Rattle.records.proofs.Flat.{flat-snoc}
 use Rattle.records.proofs.StepBytes.{step-bytes-length}
-use Rattle.list.specs.ListCall.{written}
+use Rattle.page.specs.Written.{written}
 use Rattle.next_word.specs.Moving.{stepsIn, moved, Fit}
 use Rattle.next_word.specs.declared.word.Moved.{Moved}
-use Rattle.list.proofs.Ends.{EndOf, next-in, none-in, past-in}
+use Rattle.page.proofs.Ends.{EndOf, next-in, none-in, past-in}
 
 -- the part of 16 bytes from byte k on, lent to be written, is back
 pub part-back : (xs ys v : List ℕ) (k : ℕ) → ys ≡ v → take k xs ++ (ys ++ drop (k + 16 - k) (drop k xs)) ≡ take k xs ++ (v ++ drop 16 (drop k xs))

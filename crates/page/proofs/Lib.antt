@@ -1,0 +1,4 @@
+pub mod RecordBytes
+pub mod PasteLoop
+pub mod Ends
+pub mod Paging
