@@ -23,7 +23,6 @@ use Rattle.books.proofs.OpenJournalsCases.{open-few}
 use Rattle.books.proofs.Refusals.{pass, neither, told-most}
 use Rattle.list.specs.ListCall.{Asked, Wrote, wrongOutput, listRefusals, due, fitting, wrote, listCall}
 use Rattle.list.specs.declared.Listed.{Listed}
-use Rattle.selquorin.specs.Packed.{flagged, packedList}
 
 -- a record is at most 1,000, a byte below 64, and number and book are at most 2
 abbrev pub Small : Checked → Type 0
@@ -46,11 +45,6 @@ few-journals jb e = subst (λ (o : OpenJournals). o .journals ≤ 16) (sym e) (o
 pub few-rows : (jb rb : List ℕ) {l : LiveRows} → l ≡ liveRowsCall jb rb → l .rows ≤ 1000
 few-rows jb rb e = subst (λ (l : LiveRows). l .rows ≤ 1000) (sym e) (live-few jb rb)
 
--- a yes or no is at most 1
-pub flag-small : (b : Bool) {f : ℕ} → f ≡ flagged b → f ≤ 1
-flag-small true e = omega (arith, e)
-flag-small false e = omega (arith, e)
-
 -- an output that isn't refused has at most 65,536 bytes
 output-small : (a : Asked) → first (listRefusals a) ≡ 0 → length (a .out) ≤ 65536
 output-small a e =
@@ -71,8 +65,3 @@ call-few a = told-most (first (listRefusals a)) (length (fitting a)) 4096 (λ e.
 -- the list writes at most 4,096 words
 pub few : (a : Asked) {l : Listed} {out : List ℕ} → wrote l out ≡ listCall a → l .written ≤ 4096
 few a e = subst (λ (n : ℕ). n ≤ 4096) (sym (ap (λ (w : Wrote). w .answer .written) e)) (call-few a)
-
--- what is packed is what the list answers
-pub packed-answer : (a : Asked) (l : Listed) {out : List ℕ} {f : ℕ} → wrote l out ≡ listCall a → f ≡ flagged (l .more)
-    → l .number + 256 * f + 65536 * l .written ≡ packedList (listCall a .answer)
-packed-answer a l e m = ap (λ (f : ℕ). l .number + 256 * f + 65536 * l .written) m ∙ ap (λ (w : Wrote). packedList (w .answer)) e

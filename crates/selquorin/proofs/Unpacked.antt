@@ -18,8 +18,9 @@ use Rattle.books.proofs.Refusals.{first-each}
 use Rattle.books.proofs.TableCountCases.{table-few}
 use Rattle.list.specs.ListCall.{Asked, listRefusals, listCall}
 use Rattle.list.specs.declared.Listed.{Listed}
-use Rattle.selquorin.specs.Packed.{flagged, packedCount, packedCheck, packedList, packedJournals, packedRows}
-use Rattle.selquorin.proofs.Bounds.{Small, small, flag-small, call-few}
+use Rattle.packing.specs.Packed.{flagged, packedCount, packedCheck, packedList, packedJournals, packedRows}
+use Rattle.packing.proofs.Flags.{flag-small}
+use Rattle.selquorin.proofs.Bounds.{Small, small, call-few}
 
 -- a number fits into one byte
 abbrev Byte : ℕ → Type 0

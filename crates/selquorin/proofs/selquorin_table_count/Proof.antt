@@ -1,7 +1,7 @@
 -- `selquorin::selquorin_table_count` meets its contract: what is packed is what `reading::table_count` answers. Assumes nothing.
 use mathlib.Core.Path.{ap, _∙_}
 use borrow.Author.Needs.{needs}
-use Rattle.selquorin.specs.Packed.{packedCount}
+use Rattle.packing.specs.Packed.{packedCount}
 use Rattle.selquorin.proofs.selquorin_table_count.Statement.{statement}
 use Rattle.selquorin.proofs.selquorin_table_count.Tie as tie
 

@@ -1,8 +1,8 @@
--- `selquorin::packed_count` meets its contract: two bytes fit. Assumes nothing.
+-- `packing::packed_count` meets its contract: two bytes fit. Assumes nothing.
 use mathlib.Core.Path.{refl}
 use borrow.Author.Needs.{needs}
-use Rattle.selquorin.proofs.packed_count.Statement.{statement}
-use Rattle.selquorin.proofs.packed_count.Tie as tie
+use Rattle.packing.proofs.packed_count.Statement.{statement}
+use Rattle.packing.proofs.packed_count.Tie as tie
 
 cast-result : tie.Need-cast-result
 cast-result c = search needs

@@ -7,7 +7,11 @@ use Rattle.books.specs.declared.OpenJournals.{OpenJournals}
 use Rattle.books.specs.declared.LiveRows.{LiveRows}
 use Rattle.list.specs.declared.Listed.{Listed}
 
--- number + 256 · count
+-- the most words of one output
+abbrev pub mostWords : ℕ
+mostWords = 4096
+
+-- number + 2^8 · count
 abbrev pub packedCount : Counted → ℕ
 packedCount c = c .number + 256 * c .count
 
