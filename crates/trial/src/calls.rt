@@ -1,9 +1,9 @@
 // The commands that are calls of the books: each makes its call and prints what that answers.
 
-use crate::print::answer;
-use crate::print::field;
-use crate::print::wide;
 use books::number::DONE;
+use script::print::answer;
+use script::print::field;
+use script::print::wide;
 
 // The number that a row of appends ended with, and how many steps were taken.
 struct Appended {

@@ -1,29 +1,29 @@
 // One command: its numbers and bytes taken apart, and what it does.
 
 use crate::calls;
-use crate::name::AFTER;
-use crate::name::APPEND;
-use crate::name::CHECK;
-use crate::name::CLEAR;
-use crate::name::COUNT;
-use crate::name::DIGEST;
-use crate::name::FILL;
-use crate::name::JOURNALS;
-use crate::name::LEND;
-use crate::name::LIST;
-use crate::name::OPEN;
-use crate::name::REBUILD;
-use crate::name::ROW;
-use crate::name::ROWS;
-use crate::name::TABLE;
-use crate::name::WRITE;
-use crate::name::heads;
-use crate::name::takes;
-use crate::number::MOST;
-use crate::number::to_bytes;
 use crate::page::page;
 use crate::room;
 use crate::row::row;
+use script::name::AFTER;
+use script::name::APPEND;
+use script::name::CHECK;
+use script::name::CLEAR;
+use script::name::COUNT;
+use script::name::DIGEST;
+use script::name::FILL;
+use script::name::JOURNALS;
+use script::name::LEND;
+use script::name::LIST;
+use script::name::OPEN;
+use script::name::REBUILD;
+use script::name::ROW;
+use script::name::ROWS;
+use script::name::TABLE;
+use script::name::WRITE;
+use script::name::heads;
+use script::name::takes;
+use script::number::MOST;
+use script::number::to_bytes;
 
 // Carries out a command on what is lent of the books. Answers whether it is one.
 fn call(

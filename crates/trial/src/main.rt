@@ -4,25 +4,20 @@
 
 mod calls;
 mod command;
-mod digest;
-mod name;
-mod number;
 mod page;
-mod print;
 mod room;
 mod row;
-mod text;
 
 use command::command;
 use libc::STDIN_FILENO;
-use number::MOST;
-use print::say;
 use records::JOURNAL_BOOK;
 use records::ROW_BOOK;
 use room::JOURNAL_ROOM;
 use room::OUTPUT_ROOM;
 use room::ROW_ROOM;
-use text::find;
+use script::number::MOST;
+use script::print::say;
+use script::text::find;
 
 // The bytes of the longest script and one more.
 const LONGEST: usize = 524288;
@@ -37,13 +32,13 @@ fn run_line(
     output: &mut [u8],
 ) -> bool {
     say(line);
-    if text::is_comment(line) {
+    if script::text::is_comment(line) {
         say(b"\n");
         return true;
     }
     let end = find(line, b' ', 0);
-    let code = name::code(&line[..end]);
-    let read = number::read(&line[end..], numbers);
+    let code = script::name::code(&line[..end]);
+    let read = script::number::read(&line[end..], numbers);
     if !command(code, read, numbers, lent, journals, rows, output) {
         say(b" -> broken\n");
         return false;

@@ -1,13 +1,13 @@
 // A page of the list: the call, and what is printed of it.
 
-use crate::digest::digest;
-use crate::print::answer;
-use crate::print::field;
-use crate::print::print_bytes;
-use crate::print::say;
 use list::Listed;
 use records::LONGEST_WORD;
 use records::WORD_RECORD;
+use script::digest::digest;
+use script::print::answer;
+use script::print::field;
+use script::print::print_bytes;
+use script::print::say;
 ghost use mathlib.Core.Path.{_≡_};
 ghost use Prim.Native.Nat.{_≤_};
 ghost use lib.ListN.{length};

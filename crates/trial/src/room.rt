@@ -1,12 +1,12 @@
 // The rooms of the books and of the output, and the commands on them. Each answers whether its numbers fit.
 
-use crate::digest::digest;
-use crate::print::field;
 use records::JOURNAL_BOOK;
 use records::JOURNAL_RECORD;
 use records::ROW_BOOK;
 use records::ROW_RECORD;
 use records::WORD_RECORD;
+use script::digest::digest;
+use script::print::field;
 
 // The room of each book: one record more than the book, so that a book can be lent too long, and a write behind it shows.
 pub(crate) const JOURNAL_ROOM: usize = JOURNAL_BOOK + JOURNAL_RECORD;

@@ -1,13 +1,13 @@
 // A row record as it is printed: its places, the arcs that aren't 0 as STEP:ROW, its count, and what stands behind.
 
-use crate::print::answer;
-use crate::print::field;
-use crate::print::print_bytes;
-use crate::print::say;
-use crate::print::wide;
 use records::ARCS;
 use records::COUNT;
 use records::ROW_RECORD;
+use script::print::answer;
+use script::print::field;
+use script::print::print_bytes;
+use script::print::say;
+use script::print::wide;
 ghost use mathlib.Core.Path.{_≡_};
 ghost use lib.ListN.{length};
 

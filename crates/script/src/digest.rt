@@ -38,7 +38,7 @@ fn whole(digest: u32) -> u64 {
 }
 
 // The digest of some bytes.
-pub(crate) fn digest(bytes: &[u8]) -> u64 {
+pub fn digest(bytes: &[u8]) -> u64 {
     let mut remainder = ALL_ONES;
     let mut i = 0;
     while i < bytes.len() {

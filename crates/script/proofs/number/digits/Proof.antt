@@ -2,8 +2,8 @@
 use Prim.Native.Nat.{_≤_, _-_}
 use lib.ListN.{length}
 use borrow.Author.Needs.{needs}
-use Rattle.trial.proofs.number.digits.Statement.{statement}
-use Rattle.trial.proofs.number.digits.Tie as tie
+use Rattle.script.proofs.number.digits.Statement.{statement}
+use Rattle.script.proofs.number.digits.Tie as tie
 
 abbrev Inv-loop : tie.InvT-loop
 Inv-loop text at value₀ i₀ value i = (at ≤ i) × (i ≤ length text)

@@ -2,8 +2,8 @@
 use Prim.Native.Nat.{_≤_, _-_}
 use lib.ListN.{length}
 use borrow.Author.Needs.{needs}
-use Rattle.trial.proofs.digest.digest.Statement.{statement}
-use Rattle.trial.proofs.digest.digest.Tie as tie
+use Rattle.script.proofs.digest.digest.Statement.{statement}
+use Rattle.script.proofs.digest.digest.Tie as tie
 
 abbrev Inv-loop : tie.InvT-loop
 Inv-loop bytes remainder₀ i₀ remainder i = i ≤ length bytes

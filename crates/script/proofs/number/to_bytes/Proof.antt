@@ -2,8 +2,8 @@
 use Prim.Native.Nat.{_≤_, _-_}
 use lib.ListN.{length}
 use borrow.Author.Needs.{needs}
-use Rattle.trial.proofs.number.to_bytes.Statement.{statement}
-use Rattle.trial.proofs.number.to_bytes.Tie as tie
+use Rattle.script.proofs.number.to_bytes.Statement.{statement}
+use Rattle.script.proofs.number.to_bytes.Tie as tie
 
 abbrev Inv-loop : tie.InvT-loop
 Inv-loop numbers bytes₀ i₀ bytes i = i ≤ length numbers

@@ -5,10 +5,10 @@ ghost use Prim.Native.Nat.{_≤_, _<_};
 ghost use lib.ListN.{length};
 
 // The most numbers of a line.
-pub(crate) const MOST: usize = 8192;
+pub const MOST: usize = 8192;
 
 // In the place of how many numbers there are, where a line has other text or too many.
-pub(crate) const BROKEN: usize = 0xffffffffffffffff;
+pub const BROKEN: usize = 0xffffffffffffffff;
 
 // A number that was read, and where it ends.
 struct Plain {
@@ -109,7 +109,7 @@ fn put(numbers: &mut [usize; MOST], at: usize, end: usize, value: usize)
 }
 
 // Reads the numbers of a line behind its name. Answers how many they are.
-pub(crate) fn read(text: &[u8], numbers: &mut [usize; MOST]) -> usize {
+pub fn read(text: &[u8], numbers: &mut [usize; MOST]) -> usize {
     let mut n = 0;
     let mut at = 0;
     while at < text.len() {
@@ -129,7 +129,7 @@ pub(crate) fn read(text: &[u8], numbers: &mut [usize; MOST]) -> usize {
 }
 
 // Copies numbers that are bytes. Answers whether all are.
-pub(crate) fn to_bytes(numbers: &[usize], bytes: &mut [u8; MOST]) -> bool
+pub fn to_bytes(numbers: &[usize], bytes: &mut [u8; MOST]) -> bool
     requires { ⌜ length (now numbers) ≤ 8192 ⌝ }
 {
     let mut i = 0;

@@ -4,7 +4,7 @@ ghost use Prim.Native.Nat.{_≤_};
 ghost use lib.ListN.{length};
 
 // Where a byte stands first, from a place on; the text's length if it stands nowhere there.
-pub(crate) fn find(text: &[u8], byte: u8, at: usize) -> usize
+pub fn find(text: &[u8], byte: u8, at: usize) -> usize
     requires { ⌜ at ≤ length (now text) ⌝ }
     ensures { λ r. ⌜ (at ≤ r) × (r ≤ length (now (text .entry))) ⌝ }
 {
@@ -19,7 +19,7 @@ pub(crate) fn find(text: &[u8], byte: u8, at: usize) -> usize
 }
 
 // Whether a line is there for its reader only: it is empty, or begins with `#`.
-pub(crate) fn is_comment(line: &[u8]) -> bool {
+pub fn is_comment(line: &[u8]) -> bool {
     if line.len() == 0 {
         return true;
     }
@@ -27,7 +27,7 @@ pub(crate) fn is_comment(line: &[u8]) -> bool {
 }
 
 // Whether two texts are the same.
-pub(crate) fn same(a: &[u8], b: &[u8]) -> bool {
+pub fn same(a: &[u8], b: &[u8]) -> bool {
     if a.len() != b.len() {
         return false;
     }

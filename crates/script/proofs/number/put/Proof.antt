@@ -1,8 +1,8 @@
 -- Every place is below the end, which is within the array.
 use Prim.Native.Nat.{_≤_, _-_}
 use borrow.Author.Needs.{needs}
-use Rattle.trial.proofs.number.put.Statement.{statement}
-use Rattle.trial.proofs.number.put.Tie as tie
+use Rattle.script.proofs.number.put.Statement.{statement}
+use Rattle.script.proofs.number.put.Tie as tie
 
 abbrev Inv-loop : tie.InvT-loop
 Inv-loop numbers₀ at end value i₀ numbers i = at ≤ i

@@ -2,8 +2,8 @@
 use Prim.Native.Nat.{_≤_, _-_}
 use lib.ListN.{length}
 use borrow.Author.Needs.{needs}
-use Rattle.trial.proofs.number.read.Statement.{statement}
-use Rattle.trial.proofs.number.read.Tie as tie
+use Rattle.script.proofs.number.read.Statement.{statement}
+use Rattle.script.proofs.number.read.Tie as tie
 
 abbrev Inv-loop : tie.InvT-loop
 Inv-loop text numbers₀ n₀ at₀ numbers n at = (n ≤ 8192) × (at ≤ length text)

@@ -2,39 +2,39 @@
 
 use crate::text::same;
 
-pub(crate) const NONE: u8 = 0;
+pub const NONE: u8 = 0;
 
-pub(crate) const CLEAR: u8 = 1;
+pub const CLEAR: u8 = 1;
 
-pub(crate) const OPEN: u8 = 2;
+pub const OPEN: u8 = 2;
 
-pub(crate) const APPEND: u8 = 3;
+pub const APPEND: u8 = 3;
 
-pub(crate) const TABLE: u8 = 4;
+pub const TABLE: u8 = 4;
 
-pub(crate) const COUNT: u8 = 5;
+pub const COUNT: u8 = 5;
 
-pub(crate) const CHECK: u8 = 6;
+pub const CHECK: u8 = 6;
 
-pub(crate) const ROW: u8 = 7;
+pub const ROW: u8 = 7;
 
-pub(crate) const LIST: u8 = 8;
+pub const LIST: u8 = 8;
 
-pub(crate) const AFTER: u8 = 9;
+pub const AFTER: u8 = 9;
 
-pub(crate) const WRITE: u8 = 10;
+pub const WRITE: u8 = 10;
 
-pub(crate) const LEND: u8 = 11;
+pub const LEND: u8 = 11;
 
-pub(crate) const FILL: u8 = 12;
+pub const FILL: u8 = 12;
 
-pub(crate) const DIGEST: u8 = 13;
+pub const DIGEST: u8 = 13;
 
-pub(crate) const JOURNALS: u8 = 14;
+pub const JOURNALS: u8 = 14;
 
-pub(crate) const ROWS: u8 = 15;
+pub const ROWS: u8 = 15;
 
-pub(crate) const REBUILD: u8 = 16;
+pub const REBUILD: u8 = 16;
 
 // The command on the rooms that has this name.
 fn room_code(name: &[u8]) -> u8 {
@@ -77,7 +77,7 @@ fn reading_code(name: &[u8]) -> u8 {
 }
 
 // The command that has this name.
-pub(crate) fn code(name: &[u8]) -> u8 {
+pub fn code(name: &[u8]) -> u8 {
     if same(name, b"clear") {
         return CLEAR;
     }
@@ -100,7 +100,7 @@ pub(crate) fn code(name: &[u8]) -> u8 {
 }
 
 // How many numbers stand before a command's bytes.
-pub(crate) fn heads(code: u8) -> usize {
+pub fn heads(code: u8) -> usize {
     match code {
         ROW => 1,
         WRITE | LEND => 2,
@@ -110,7 +110,7 @@ pub(crate) fn heads(code: u8) -> usize {
 }
 
 // Whether a command takes so many bytes.
-pub(crate) fn takes(code: u8, bytes: usize) -> bool {
+pub fn takes(code: u8, bytes: usize) -> bool {
     match code {
         NONE => false,
         CLEAR | REBUILD | CHECK | ROW | JOURNALS | ROWS | LEND | DIGEST => bytes == 0,

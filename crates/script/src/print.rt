@@ -8,23 +8,23 @@ ghost use lib.ListN.{length};
 const MANY: usize = 5;
 
 // A byte as a number to print.
-pub(crate) fn wide(byte: u8) -> u64 {
+pub fn wide(byte: u8) -> u64 {
     byte as u64
 }
 
 // Prints a text.
-pub(crate) fn say(text: &[u8]) {
+pub fn say(text: &[u8]) {
     io::write_all(STDOUT_FILENO, text);
 }
 
 // Prints a text and a number behind it.
-pub(crate) fn field(name: &[u8], number: u64) {
+pub fn field(name: &[u8], number: u64) {
     say(name);
     io::print_decimal(STDOUT_FILENO, number);
 }
 
 // Prints the number that a call answers.
-pub(crate) fn answer(number: u8) {
+pub fn answer(number: u8) {
     field(b" -> ", wide(number));
 }
 
@@ -60,7 +60,7 @@ fn print_run(bytes: &[u8], at: usize) -> usize
 }
 
 // Prints bytes as a script has them.
-pub(crate) fn print_bytes(bytes: &[u8]) {
+pub fn print_bytes(bytes: &[u8]) {
     let mut at = 0;
     while at < bytes.len() {
         at = print_run(bytes, at);

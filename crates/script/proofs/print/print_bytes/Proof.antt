@@ -2,8 +2,8 @@
 use Prim.Native.Nat.{_≤_, _-_}
 use lib.ListN.{length}
 use borrow.Author.Needs.{needs}
-use Rattle.trial.proofs.print.print_bytes.Statement.{statement}
-use Rattle.trial.proofs.print.print_bytes.Tie as tie
+use Rattle.script.proofs.print.print_bytes.Statement.{statement}
+use Rattle.script.proofs.print.print_bytes.Tie as tie
 
 abbrev Inv-loop : tie.InvT-loop
 Inv-loop bytes at₀ at = at ≤ length bytes
