@@ -1,8 +1,8 @@
 #!/usr/bin/env bash
 # Makes the static library where it is missing, or older than a source of it, and prints the folder that has it. Beside it
 # stands selquorin.pc, for pkg-config, which finds the library in its own folder and the header in this repository.
-# The kit's archive is for x86-64. On another processor the same proved crates are compiled once more, for that one, so that
-# the Rust crates and the example in C can be run there too: the kit is told of a compiler that is its own but for the target.
+# The kit's archive is for x86-64. On another processor the same proved crates are compiled for that one, so that the Rust crates
+# and the example in C can be run there too: the kit is told of a compiler that is its own but for the target.
 set -eu
 cd "$(dirname "$0")/.."
 
@@ -23,8 +23,9 @@ if [ -f "$archive" ] && [ -z "$(find crates crates.txt -newer "$archive" -print 
   exit
 fi
 
-bash example/prove.sh selquorin staticlib >&2
-if [ "$machine" != x86_64 ]; then
+if [ "$machine" = x86_64 ]; then
+  bash example/prove.sh selquorin staticlib >&2
+else
   kit=$(dirname "$(dirname "$(rt doc)")")
   own=$(mktemp -d)
   trap 'rm -rf "$own"' EXIT
@@ -41,9 +42,11 @@ if [ "$machine" != x86_64 ]; then
     echo "exec '$kit/$tools/bin/clang' \"\${words[@]}\""
   } >"$own/$tools/bin/clang"
   chmod +x "$own/$tools/bin/clang"
-  mv target/staticlib/libselquorin.a "$own/kept"
+  # One for x86-64 that stands there stays.
+  made=target/staticlib/libselquorin.a
+  [ ! -f "$made" ] || mv "$made" "$own/kept"
   RATTLE_HOME=$own bash example/prove.sh selquorin staticlib >&2
-  mv target/staticlib/libselquorin.a "$archive"
-  mv "$own/kept" target/staticlib/libselquorin.a
+  mv "$made" "$archive"
+  [ ! -f "$own/kept" ] || mv "$own/kept" "$made"
 fi
 echo "$PWD/$folder"

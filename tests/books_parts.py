@@ -205,7 +205,7 @@ def thousand_rows(s):
     1,001 states by the journal book's bytes the check says 2 2 1000 0, whatever the row book holds. A sixth journal can be
     opened, and takes each step that makes as many states as it ends, but none that makes one more; when it is full it is
     refused with 5 and not with 6. Rebuild draws the 1,000 rows anew, and refuses one more."""
-    s.books([bytes([step]) * 200 for step in range(4)])
+    s.books_at_once([bytes([step]) * 200 for step in range(4)])
     s("append 3", "open")
     for n in range(199):
         s("append 4", *["digest", "rows"] * (n % 20 == 0))
@@ -226,7 +226,7 @@ def thousand_rows(s):
 
 def random_journals(s):
     """Random journals: the rows by their digest, and words counted both ways, those that are in and those that are not.
-    Each tenth time they are so long that many steps are refused with 6."""
+    Each twentieth time they are so long that many steps are refused with 6."""
     for turn in range(200):
         steps = s.chance.sample(range(16), s.chance.choice([1, 2, 2, 3, 4, 6, 16]))
         k = s.chance.choice([1, 2, 2, 3, 3, 4, 5, 7, 10, 16])
@@ -234,7 +234,7 @@ def random_journals(s):
         s("clear")
         for _ in range(k):
             s("open")
-            journal = bytes(s.chance.choices(steps, k=3 * longest if turn % 10 == 9 else s.chance.randrange(longest + 1)))
+            journal = bytes(s.chance.choices(steps, k=3 * longest if turn % 20 == 19 else s.chance.randrange(longest + 1)))
             for step in journal:
                 s(f"append {step}", *["digest"] * (s.chance.random() < 0.3))
             s(*word(s.random_word(steps, 4)), *word(bytes(step for step in journal if s.chance.random() < 0.4)[:15]))

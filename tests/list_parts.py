@@ -240,7 +240,7 @@ def near_thousand(s):
             # The list of quorum 4 has few words, of any length.
             if quorum == 4 <= k:
                 in_pages(s, quorum, 15, (7, 4096))
-    s.books([bytes([step]) * 200 for step in range(4)] + [bytes([4]) * 199])
+    s.books_at_once([bytes([step]) * 200 for step in range(4)] + [bytes([4]) * 199])
     for quorum in 1, 2, 5, 6:
         in_pages(s, quorum, 15, (7, 4096))
     s("digest")

@@ -19,11 +19,18 @@ def opened_first(*all_steps):
     return journals(*[[255, *steps] for steps in all_steps])
 
 
+def round_five(stride, length):
+    """Steps that go round five codes by a stride. Journals of different strides have many rows for their length."""
+    return [6 + stride * at % 5 for at in range(length)]
+
+
 TWO, ASK = EXAMPLE_ENTRIES, EXAMPLE_ASK
 SIXTEEN, EMPTY_16 = journals(*[[number, 7] for number in range(16)]), journals(*[[]] * 16)
-# Books of just 1,000 rows; the same rows, but the last journal is full; as many entries as can be taken.
-THOUSAND = journals(*[[number] * 200 for number in range(4)], [4] * 199)
-THOUSAND_AND_FULL = journals([0] * 199, *[[number] * 200 for number in range(1, 5)])
+# Books of just 1,000 rows; the same with a last journal that is full; sixteen journals of which the last is full; as many
+# entries as can be taken.
+THOUSAND = journals([0] * 21, *[round_five(stride, 37) for stride in (1, 2, 3)], [4] * 5)
+THOUSAND_AND_FULL = journals([0] * 32, round_five(1, 34), round_five(2, 34), [3], [4] * 166 + round_five(3, 34))
+SIXTEENTH_FULL = journals(*[[0]] * 15, [0] * 200)
 LONGEST = opened_first(*[[0] * 200] * 16)
 UP, DOWN, TEN, DIGITS = list(range(16)), list(range(15, -1, -1)), list(range(3, 13)), list(range(10)) * 20
 
@@ -104,10 +111,10 @@ REFUSED_ENTRIES = {
     "rows_1001_lone_byte": (THOUSAND + b"\4", bytes([1, 2])),
     "steps_201_before_rows_1001": (THOUSAND_AND_FULL + b"\4\4", bytes([1, 1])),
     "longest_and_a_step": (LONGEST + b"\x0f\0", None),
-    "longest_and_a_journal": (LONGEST + b"\x10\0", None),
-    "longest_and_an_opening": (LONGEST + b"\x10\xff", None),
-    "longest_and_a_broken_step": (LONGEST + b"\x10\x10", None),
     "longest_and_a_lone_byte": (LONGEST + b"\x0f", None),
+    "sixteenth_full_and_a_journal": (SIXTEENTH_FULL + b"\x10\0", None),
+    "sixteenth_full_and_an_opening": (SIXTEENTH_FULL + b"\x10\xff", None),
+    "sixteenth_full_and_a_broken_step": (SIXTEENTH_FULL + b"\x10\x10", None),
     # The first refusal ends it, whatever stands behind and in the ask.
     "refused_first_of_two": (TWO + b"\1\x10\1\1\3\0\0", ASK),
     "refused_before_an_ask_of_1": (TWO + b"\3\1", b"\2"),

@@ -60,8 +60,9 @@ def is_left(folder, ask):
 
 
 class Load:
-    """The loading program: it finds the ask in its folder, and names on standard error what failed, or says nothing."""
-    sees_closed = True
+    """The loading program: it finds the ask in its folder, and names on standard error what failed, or says nothing. An input
+    or output that is closed from the start fails."""
+    closed_fails = True
 
     def __init__(self, path):
         self.words = built.words(path)
@@ -222,9 +223,9 @@ def pieces(program):
     yield "input in single bytes, the last alone", lambda: same(text(program, ask, alone, 0.02), b"refused 11 record 6\n")
     yield "no input", lambda: same(text(program, MISSING, null()), b"refused 8 ask\n")
     yield "no input, ended late", lambda: same(text(program, MISSING, [b""], 0.3), b"refused 8 ask\n")
-    longest, ask_longest, due_longest = case("journals_16_of_200")
-    cut_longest = [longest[at:at + 1001] for at in range(0, len(longest), 1001)]
-    yield "long input in pieces of 1001", lambda: same(text(program, ask_longest, cut_longest, 0.01), due_longest)
+    long, ask_long, due_long = case("rows_1000_and_200_steps")
+    cut_long = [long[at:at + 101] for at in range(0, len(long), 101)]
+    yield "long input in pieces of 101", lambda: same(text(program, ask_long, cut_long, 0.01), due_long)
 
 
 def large(program):
@@ -240,8 +241,8 @@ def failing_input(program):
     stdin, ask, _ = case("example")
     here = os.path.dirname(os.path.abspath(__file__))
     yield "input is a directory", lambda: same(text(program, ask, os.open(here, os.O_RDONLY), failed=INPUT), b"")
-    if program.sees_closed:
-        yield "input is closed", lambda: same(text(program, ask, null(), before=lambda: os.close(0), failed=INPUT), b"")
+    failed, due = (INPUT, b"") if program.closed_fails else (b"", program_model.printed(b"", ask))
+    yield "input is closed", lambda: same(text(program, ask, null(), before=lambda: os.close(0), failed=failed), due)
     yield "input is open for writing only", lambda: same(text(program, ask, null(os.O_WRONLY), failed=INPUT), b"")
     yield "input fails behind good entries", lambda: same(text(program, ask, failing_behind(stdin), failed=INPUT), b"")
     yield "ask is a directory", lambda: same(text(program, DIRECTORY, [stdin], failed=ASK), b"")
@@ -299,18 +300,18 @@ def reader_leaves(program, name, ignored):
     same(out[0], due[:len(out[0])])
 
 
-def to_end(program, name, stdout, before=None):
-    """Output that fails and that nobody can look at: it has to end and to say so."""
-    stdin, ask, _ = case(name)
-    program.hold(run(program, ask, [stdin], stdout, before=before), OUTPUT, b"")
+def to_end(program, name, stdout, before=None, failed=OUTPUT):
+    """Output that nobody can look at: it has to end, and to say so if it fails."""
+    stdin, ask, due = case(name)
+    program.hold(run(program, ask, [stdin], stdout, before=before), failed, due)
 
 
 def failing_output(program):
     """Where a write fails, it ends without the last line."""
     for name in "example", "words_7099", "lone_byte", "ask_of_1":
         yield f"{name} to a full device", lambda: to_end(program, name, os.open("/dev/full", os.O_WRONLY))
-        if program.sees_closed:
-            yield f"{name} to a closed output", lambda: to_end(program, name, null(os.O_WRONLY), lambda: os.close(1))
+        failed = OUTPUT if program.closed_fails else b""
+        yield f"{name} to a closed output", lambda: to_end(program, name, null(os.O_WRONLY), lambda: os.close(1), failed)
         yield f"{name} to an output open for reading only", lambda: to_end(program, name, null())
         for ignored in False, True:
             yield f"{name}, the reader leaves, {ignored=}", lambda: reader_leaves(program, name, ignored)
@@ -321,7 +322,7 @@ def failing_output(program):
         yield f"{name} where large writes fail", lambda: no_large_writes(program, name)
 
 
-EVERY = cases, pieces, failing_input, failing_output, large
+EVERY = large, cases, pieces, failing_input, failing_output
 
 
 def share(program, every, begun, ended):

@@ -28,9 +28,10 @@ OLD = b"what stood there before"
 
 
 class Desk:
-    """The program for the desk. It is told of the ask, has a status, and says a refusal in words besides. An input or output
-    that is closed from the start is none that it could see: before it runs, its language opens an empty one in that place."""
-    sees_closed = False
+    """The program for the desk. It is told of the ask, has a status, and says a refusal in words besides. Before it runs, its
+    language opens an empty device in the place of an input or output that is closed from the start: so that one is an empty
+    input to it, and this one takes everything."""
+    closed_fails = False
 
     def __init__(self, path):
         self.path = os.path.abspath(path)

@@ -203,6 +203,10 @@ class Script:
         """Books of these journals."""
         self("clear", *["open" + runs(journal) for journal in journals])
 
+    def books_at_once(self, journals):
+        """The same books, the journals written as bytes and their rows drawn in one go."""
+        self("clear", "write 1 0" + runs(model.journal_book(journals)), "rebuild")
+
     def last_row(self):
         return model.live_rows(*self.trial.books())[1] - 1
 

@@ -5,7 +5,6 @@ use Rattle.books.specs.declared.Counted.{Counted}
 use Rattle.books.specs.declared.Checked.{Checked}
 use Rattle.books.specs.declared.OpenJournals.{OpenJournals}
 use Rattle.books.specs.declared.LiveRows.{LiveRows}
-use Rattle.list.specs.declared.Listed.{Listed}
 
 -- the most words of one output
 abbrev pub mostWords : ℕ
@@ -24,8 +23,8 @@ abbrev pub flagged : Bool → ℕ
 flagged b = cond b 1 0
 
 -- number + 2^8 · more + 2^16 · written
-abbrev pub packedList : Listed → ℕ
-packedList l = l .number + 256 * flagged (l .more) + 65536 * l .written
+abbrev pub packedPage : ℕ → Bool → ℕ → ℕ
+packedPage number more written = number + 256 * flagged more + 65536 * written
 
 -- number + 2^8 · journals
 abbrev pub packedJournals : OpenJournals → ℕ

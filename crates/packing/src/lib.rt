@@ -4,12 +4,11 @@ use books::Checked;
 use books::Counted;
 use books::LiveRows;
 use books::OpenJournals;
-use list::Listed;
 ghost use mathlib.Core.Path.{_≡_};
 ghost use Prim.Native.Nat.{_≤_, _<_};
 ghost use Rattle.records.specs.Sizes.{mostRows, rowRecordSize};
 ghost use Rattle.words.specs.Limits.{mostJournals};
-ghost use Rattle.packing.specs.Packed.{flagged, packedCount, packedCheck, packedList, packedJournals, packedRows, mostWords};
+ghost use Rattle.packing.specs.Packed.{flagged, packedCount, packedCheck, packedPage, packedJournals, packedRows, mostWords};
 
 // A count's answer: its number, and the count 2^8 times.
 pub fn packed_count(counted: Counted) -> u32
@@ -39,15 +38,13 @@ fn flag(yes: bool) -> u64
     if yes { 1 } else { 0 }
 }
 
-// What the list answers: the number, whether a further word remains 2^8 times and how many were written 2^16 times.
-pub fn packed_list(listed: Listed) -> u64
-    requires { ⌜ listed .written ≤ mostWords ⌝ }
-    ensures { λ r. ⌜ r ≡ packedList listed ⌝ }
+// What a page of the list answers: the number, whether a further word remains 2^8 times and how many were written 2^16 times.
+pub fn packed_page(number: u8, more: bool, written: usize) -> u64
+    requires { ⌜ written ≤ mostWords ⌝ }
+    ensures { λ r. ⌜ r ≡ packedPage number more written ⌝ }
 {
-    let number = listed.number;
-    let more = flag(listed.more);
-    let written = listed.written;
-    number as u64 + 256 * more + 65536 * (written as u64)
+    let further = flag(more);
+    number as u64 + 256 * further + 65536 * (written as u64)
 }
 
 // How many journals are open: the number, and the journals 2^8 times.

@@ -9,7 +9,8 @@ use Rattle.books.specs.Check.{checkCall}
 use Rattle.books.specs.OpenJournals.{openJournalsCall}
 use Rattle.books.specs.LiveRows.{liveRowsCall}
 use Rattle.list.specs.ListCall.{Asked, listCall}
-use Rattle.packing.specs.Packed.{packedCount, packedCheck, packedList, packedJournals, packedRows}
+use Rattle.selquorin.specs.PackedList.{packedList}
+use Rattle.packing.specs.Packed.{packedCount, packedCheck, packedJournals, packedRows}
 
 pub table-count-one : (rb w : List ℕ) → OneOutcome (packedCount (tableCountCall rb w))
 table-count-one rb w = one-outcome (packedCount (tableCountCall rb w))

@@ -18,7 +18,8 @@ use Rattle.books.proofs.Refusals.{first-each}
 use Rattle.books.proofs.TableCountCases.{table-few}
 use Rattle.list.specs.ListCall.{Asked, listRefusals, listCall}
 use Rattle.list.specs.declared.Listed.{Listed}
-use Rattle.packing.specs.Packed.{flagged, packedCount, packedCheck, packedList, packedJournals, packedRows}
+use Rattle.selquorin.specs.PackedList.{packedList}
+use Rattle.packing.specs.Packed.{flagged, packedCount, packedCheck, packedJournals, packedRows}
 use Rattle.packing.proofs.Flags.{flag-small}
 use Rattle.selquorin.proofs.Bounds.{Small, small, call-few}
 

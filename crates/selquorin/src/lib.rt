@@ -3,7 +3,7 @@
 use packing::packed_check;
 use packing::packed_count;
 use packing::packed_journals;
-use packing::packed_list;
+use packing::packed_page;
 use packing::packed_rows;
 ghost use mathlib.Core.Path.{_≡_};
 ghost use mathlib.Core.Bool.{not};
@@ -19,7 +19,8 @@ ghost use Rattle.books.specs.RowRecord.{rowRecordNumberCall};
 ghost use Rattle.books.specs.OpenJournals.{openJournalsCall};
 ghost use Rattle.books.specs.LiveRows.{liveRowsCall};
 ghost use Rattle.books.specs.Rebuild.{rebuildCall};
-ghost use Rattle.packing.specs.Packed.{packedCount, packedCheck, packedList, packedJournals, packedRows};
+ghost use Rattle.packing.specs.Packed.{packedCount, packedCheck, packedJournals, packedRows};
+ghost use Rattle.selquorin.specs.PackedList.{packedList};
 
 // Clears both books.
 #[no_mangle]
@@ -91,7 +92,8 @@ pub extern "C" fn selquorin_list(
     ensures answer { λ r. ⌜ r ≡ packedList (listCall (asked (now (journals .entry)) (now (rows .entry)) quorum length (not (eqb after 0)) (now (word_record .entry)) (now (out .entry))) .answer) ⌝ }
     ensures output { λ _. ⌜ now (out .exit) ≡ listCall (asked (now (journals .entry)) (now (rows .entry)) quorum length (not (eqb after 0)) (now (word_record .entry)) (now (out .entry))) .out ⌝ }
 {
-    packed_list(list::list(journals, rows, quorum, length, after != 0, word_record, out))
+    let listed = list::list(journals, rows, quorum, length, after != 0, word_record, out);
+    packed_page(listed.number, listed.more, listed.written)
 }
 
 // The number that goes with a row record.

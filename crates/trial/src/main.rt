@@ -20,7 +20,7 @@ use script::print::say;
 use script::text::find;
 
 // The bytes of the longest script and one more.
-const LONGEST: usize = 524288;
+const LONGEST: usize = 262144;
 
 // Carries out one line. Answers whether it is one.
 fn run_line(

@@ -2,7 +2,7 @@
 use mathlib.Core.Path.{ap, _∙_}
 use borrow.Author.Needs.{needs}
 use Rattle.list.specs.ListCall.{Wrote}
-use Rattle.packing.specs.Packed.{packedList}
+use Rattle.selquorin.specs.PackedList.{packedList}
 use Rattle.selquorin.proofs.Bounds.{few}
 use Rattle.selquorin.proofs.selquorin_list.Statement.{statement}
 use Rattle.selquorin.proofs.selquorin_list.Tie as tie
@@ -10,8 +10,8 @@ use Rattle.selquorin.proofs.selquorin_list.Tie as tie
 list-requires : tie.Need-list-requires
 list-requires c κs = search needs
 
-packed-list-requires : tie.Need-packed-list-requires
-packed-list-requires c κs = few _ (c .before .before .list .ensures)
+packed-page-requires : tie.Need-packed-page-requires
+packed-page-requires c κs = few _ (c .before .before .list .ensures)
 
 same-length : tie.Need-same-length
 same-length c = search needs
@@ -19,7 +19,7 @@ same-length c = search needs
 returns : tie.Need-returns
 returns c =
     let e = c .before .before .before .list .ensures in
-    (c .packed-list .ensures ∙ ap (λ (w : Wrote). packedList (w .answer)) e, ap (λ (w : Wrote). w .out) e)
+    (c .packed-page .ensures ∙ ap (λ (w : Wrote). packedList (w .answer)) e, ap (λ (w : Wrote). w .out) e)
 
 pub selquorin-list-spec : {M : Type 1} → statement M
-selquorin-list-spec = tie.close (tie.spec list-requires packed-list-requires same-length returns)
+selquorin-list-spec = tie.close (tie.spec list-requires packed-page-requires same-length returns)
