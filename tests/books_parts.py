@@ -219,15 +219,15 @@ def thousand_rows(s):
     s.with_written([*more, (2, 0, [9]), (2, 999 * 64 + 50, [9])], [*EVERY_CALL, *REBUILD])
     s.with_written([(2, 0, [9]), (2, 999 * 64 + 48, [9])], REBUILD)
     s("check", "open", "digest", "append 5", "digest")
-    for n in range(200):
-        s("append 0", *["append 1", "digest", "rows"] * (n % 40 == 0))
-    s("append 0", "append 5", "digest", "check", "journals")
+    for n in range(40):
+        s("append 0", *["append 1", "digest", "rows"] * (n % 8 == 0))
+    s(f"write 1 {5 * 256 + 1} 198", "rebuild", "append 0 0", "append 0", "append 5", "digest", "check", "journals")
 
 
 def random_journals(s):
     """Random journals: the rows by their digest, and words counted both ways, those that are in and those that are not.
     Each twentieth time they are so long that many steps are refused with 6."""
-    for turn in range(200):
+    for turn in range(160):
         steps = s.chance.sample(range(16), s.chance.choice([1, 2, 2, 3, 4, 6, 16]))
         k = s.chance.choice([1, 2, 2, 3, 3, 4, 5, 7, 10, 16])
         longest = {1: 80, 2: 22, 3: 12, 4: 9, 5: 8}.get(k, 6)

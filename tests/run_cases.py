@@ -183,7 +183,7 @@ def failing_behind(data):
 @lru_cache(maxsize=None)
 def case(name):
     """Standard input, the ask and what must be printed of a named case."""
-    stdin, ask = named_cases.CASES[name]
+    stdin, ask = (named_cases.CASES | named_cases.BEFORE_MUCH)[name]
     return stdin, ask, program_model.printed(stdin, ask)
 
 
@@ -230,7 +230,7 @@ def pieces(program):
 
 def large(program):
     """What stands behind a refused entry doesn't count, however much it is."""
-    for name in "steps_201", "longest_and_a_step", "number_skips_one":
+    for name in *named_cases.BEFORE_MUCH, "steps_201", "number_skips_one":
         stdin, ask, due = case(name)
         chunk = stdin[-2:] * (1 << 19)
         yield f"{name}, and {LARGE} bytes behind", lambda: same(text(program, ask, [stdin, *[chunk] * (LARGE // len(chunk))]), due)
@@ -348,6 +348,8 @@ def main(called, program, every=EVERY):
     """Runs all, as many at a time as there are processors. What the models say is made first, for all processes."""
     for name in "cases named", "cases random":
         part(name)
+    for name in named_cases.BEFORE_MUCH:
+        case(name)
     forked = multiprocessing.get_context("fork")
     begun, ended = forked.Value("i", 0), forked.Queue()
     workers = [forked.Process(target=share, args=(program, every, begun, ended)) for _ in range(os.cpu_count())]

@@ -2,8 +2,8 @@
 use lib.ListN.{length-take}
 use native.Mathlib.Omega.{arith}
 use borrow.Author.Needs.{needs}
-use Rattle.trial.proofs.page.print_word.Statement.{statement}
-use Rattle.trial.proofs.page.print_word.Tie as tie
+use Rattle.script.proofs.record.print_word.Statement.{statement}
+use Rattle.script.proofs.record.print_word.Tie as tie
 
 shared-slice-read-used : tie.Need-shared-slice-read-used
 shared-slice-read-used c = search needs

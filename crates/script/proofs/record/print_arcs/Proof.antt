@@ -1,8 +1,8 @@
 -- The arc of a step has its two bytes below byte 48.
 use Prim.Native.Nat.{_≤_, _-_}
 use borrow.Author.Needs.{needs}
-use Rattle.trial.proofs.row.print_arcs.Statement.{statement}
-use Rattle.trial.proofs.row.print_arcs.Tie as tie
+use Rattle.script.proofs.record.print_arcs.Statement.{statement}
+use Rattle.script.proofs.record.print_arcs.Tie as tie
 
 abbrev Inv-loop : tie.InvT-loop
 Inv-loop bytes step₀ step = step ≤ 16

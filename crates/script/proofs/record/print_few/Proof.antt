@@ -2,8 +2,8 @@
 use lib.ListN.{length-take}
 use native.Mathlib.Omega.{arith}
 use borrow.Author.Needs.{needs}
-use Rattle.trial.proofs.page.print_few.Statement.{statement}
-use Rattle.trial.proofs.page.print_few.Tie as tie
+use Rattle.script.proofs.record.print_few.Statement.{statement}
+use Rattle.script.proofs.record.print_few.Tie as tie
 
 returns : tie.Need-returns
 returns c = search needs

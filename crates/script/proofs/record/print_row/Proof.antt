@@ -2,8 +2,8 @@
 use lib.ListN.{length-take}
 use native.Mathlib.Omega.{arith}
 use borrow.Author.Needs.{needs}
-use Rattle.trial.proofs.row.print_row.Statement.{statement}
-use Rattle.trial.proofs.row.print_row.Tie as tie
+use Rattle.script.proofs.record.print_row.Statement.{statement}
+use Rattle.script.proofs.record.print_row.Tie as tie
 
 slice-aggregate-say : tie.Need-slice-aggregate-say
 slice-aggregate-say c = search needs

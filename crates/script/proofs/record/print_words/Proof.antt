@@ -3,8 +3,8 @@ use lib.ListN.{length, length-take, length-drop}
 use Prim.Native.Nat.{_≤_, _-_}
 use borrow.Author.Needs.{needs}
 use native.Mathlib.Omega.{arith}
-use Rattle.trial.proofs.page.print_words.Statement.{statement}
-use Rattle.trial.proofs.page.print_words.Tie as tie
+use Rattle.script.proofs.record.print_words.Statement.{statement}
+use Rattle.script.proofs.record.print_words.Tie as tie
 
 abbrev Inv-loop : tie.InvT-loop
 Inv-loop words at₀ at = at ≤ length words
