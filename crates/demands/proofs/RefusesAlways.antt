@@ -41,7 +41,7 @@ noJournals = replicate journalBookSize 0
 abbrev noRows : List ℕ
 noRows = replicate rowBookSize 0
 
-abbrev single : List (List ℕ)
+abbrev pub single : List (List ℕ)
 single = (1 ∷ []) ∷ []
 
 -- an outcome with another number than 0 isn't the one promised, where that has 0
@@ -62,7 +62,7 @@ open-done = refl
 pub open-refuses-always : (o : After) → (o .number ≡ 0 → ⊥) → o ≡ openCall noJournals noRows → ⊥
 open-refuses-always = refuses (λ (o : After). o .number) (openCall noJournals noRows) open-done
 
-append-done : appendCall (journalBook single) (rowBook single) 1 .number ≡ 0
+pub append-done : appendCall (journalBook single) (rowBook single) 1 .number ≡ 0
 unfolding appendAtCall appendCall sound journalForm firstWrongRecord journalsOf journalBook journalRecord stepBytes rowBook rowRecord picture
 append-done = refl
 

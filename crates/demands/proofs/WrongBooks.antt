@@ -22,7 +22,8 @@ use Rattle.records.specs.StepBytes.{stepBytes}
 use Rattle.records.specs.WordRecord.{wordRecord}
 use Rattle.records.proofs.Sound.{books-journals}
 use Rattle.books.specs.Append.{appendAtCall, appendCall}
-use Rattle.books.specs.Clear.{After}
+use Rattle.books.specs.Clear.{After, after}
+use Rattle.books.specs.Numbers.{done}
 use Rattle.books.specs.JournalCount.{journalCountCall}
 use Rattle.books.specs.Open.{openCall}
 use Rattle.books.specs.Rebuild.{rebuildCall}
@@ -32,6 +33,7 @@ use Rattle.books.specs.declared.Counted.{Counted}
 use Rattle.books.proofs.Refusals.{pass}
 use Rattle.books.proofs.Runs.{call-keeps, runs}
 use Rattle.demands.proofs.Demand2.{demand-2}
+use Rattle.demands.proofs.RefusesAlways.{single, append-done}
 use Rattle.demands.proofs.WorkedBooks.{spoilt, worked-books, rebuild-worked}
 
 -- A wrong count, at any word on any sound books: the outcome's count isn't the number of journals that the word is in.
@@ -86,10 +88,6 @@ append-leaves-journals {js} {jb} {rb} b s o z l e =
     let new = rw (n, same) at (call-keeps js jb rb b (appends s)) in
     appended-differs (lastOf js) s js (rw (books-journals b) at (append-open jb rb s n)) (sym (books-journals new) ∙ books-journals b)
 
--- a journal that has the step 1
-abbrev single : List (List ℕ)
-single = (1 ∷ []) ∷ []
-
 -- row 1 of the books of the journal 1 1 has an arc, in byte 64 + 18
 append-rows : getD (appendCall (journalBook single) (rowBook single) 1 .rows) 82 0 ≡ 2
 unfolding appendAtCall appendCall sound journalForm firstWrongRecord journalsOf journalBook journalRecord stepBytes rowBook rowRecord picture
@@ -114,10 +112,17 @@ pub append-first-step-only : (s t : ℕ) (o : After) → o .number ≡ 0 → o .
     → o ≡ appendCall (firstStep s .journal-book) (firstStep s .row-book) t → ⊥
 append-first-step-only s t o = append-leaves-journals (runs (opens ∷ appends s ∷ [])) t o
 
--- such a run, whose second step is to be done: 1 1
+-- such a run, call by call, whose second step is to be done: 1 1
+first-opened : openCall (cleared .journal-book) (cleared .row-book) ≡ after done (journalBook ([] ∷ [])) (rowBook ([] ∷ []))
+unfolding openCall opened sound journalForm firstWrongRecord journalsOf rowBook picture
+first-opened = refl
+
+first-appended : appendCall (journalBook ([] ∷ [])) (rowBook ([] ∷ [])) 1 ≡ after done (journalBook single) (rowBook single)
+unfolding appendAtCall appendCall appended sound journalForm firstWrongRecord journalsOf journalBook journalRecord stepBytes rowBook rowRecord picture
+first-appended = refl
+
 pub second-step-done : appendCall (firstStep 1 .journal-book) (firstStep 1 .row-book) 1 .number ≡ 0
-unfolding appendAtCall appendCall openCall opened sound journalForm firstWrongRecord journalsOf journalBook journalRecord stepBytes rowBook rowRecord picture
-second-step-done = refl
+second-step-done = rw (first-opened, first-appended) append-done
 
 -- byte 0 of the worked rows, and of the row book beside them
 first-place : getD (rowBook two) 0 0 ≡ 0
