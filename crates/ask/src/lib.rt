@@ -1,4 +1,5 @@
 // The ask: a quorum and a length, or what stands for them where the file is empty or missing.
+#![tactic(auto)]
 
 ghost use Rattle.std.specs.Prelude.{◌≡◌};
 ghost use Rattle.ask.specs.Ask.{ask_of, ask_call};
@@ -10,7 +11,7 @@ use records::LONGEST_WORD;
 const DEFAULT_LENGTH: usize = 8;
 
 // What the ask says: a number of document 01, the quorum and the list length.
-#[derive(Drop)]
+#[derive(Clone, Copy)]
 pub struct Ask {
     pub number: u8,
     pub quorum: usize,

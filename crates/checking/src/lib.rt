@@ -1,4 +1,6 @@
 // The calls that read both books and judge them. Each call's promise is one equation with a definition of `books`, and holds for every input.
+#![tactic(auto)]
+
 mod seen;
 pub mod size;
 

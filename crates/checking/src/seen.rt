@@ -15,7 +15,7 @@ use records::{ROW_BOOK, ROWS};
 use words::JOURNALS;
 
 // What the check says, and how many live states were found; 0 where the picture wasn't drawn.
-#[derive(Drop)]
+#[derive(Clone, Copy)]
 pub(crate) struct Seen {
     pub says: Checked,
     pub found: usize,

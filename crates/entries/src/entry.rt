@@ -9,7 +9,7 @@ use words::STEP_CODES;
 const ONLY_OPEN: u8 = 255;
 
 // What an entry asks for.
-#[derive(Drop)]
+#[derive(Clone, Copy)]
 pub enum Entry {
     Broken,
     Append(u8),

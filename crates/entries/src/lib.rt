@@ -1,4 +1,5 @@
 // Journal entries as bytes: reading them one by one, and what each asks for. It knows no books.
+#![tactic(auto)]
 
 mod entry;
 mod reader;

@@ -12,7 +12,7 @@ pub(crate) struct Reader<'a> {
 }
 
 // What stands at a position: an entry of two bytes with the position behind it, a lone last byte, or nothing.
-#[derive(Drop)]
+#[derive(Clone, Copy)]
 pub enum Read {
     Entry(u8, u8, usize),
     Lone,

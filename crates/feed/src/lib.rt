@@ -1,4 +1,5 @@
 // What the loading program does with its entries. Of the books it relies on the promises of `books` alone.
+#![tactic(auto)]
 
 mod entry;
 mod take;
@@ -11,7 +12,7 @@ pub use entry::enter;
 use take::{Taken, take_at};
 
 // How many entries were taken, and the number of the refusal that ended them, or 0.
-#[derive(Drop)]
+#[derive(Clone, Copy)]
 pub struct Fed {
     pub number: u8,
     pub taken: usize,

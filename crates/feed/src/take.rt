@@ -8,7 +8,7 @@ use books::number::{BROKEN_ENTRY, DONE};
 use entries::{Read, read_entry};
 
 // What came of looking for an entry: one was taken and the next stands at a byte, one was refused, or all are taken.
-#[derive(Drop)]
+#[derive(Clone, Copy)]
 pub(crate) enum Taken {
     Next(usize),
     Refused(u8),

@@ -1,5 +1,7 @@
 // Sorted keys of sixteen bytes in memory that the caller lends: ascending, none twice. A key's place is found by halving.
 // How memory holds them is known here alone: one after the other.
+#![tactic(auto)]
+
 ghost use Rattle.std.specs.Prelude.{◌≡◌, ◌∷◌, ◌++◌, ◌+◌, ◌≤◌, length, take, drop};
 ghost use Rattle.records.specs.Sizes.{most_rows};
 ghost use Rattle.words.specs.Order.{before, Ascending};

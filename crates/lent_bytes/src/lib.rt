@@ -1,4 +1,5 @@
 // Lent bytes: filled with zeros or with other bytes, tested, and sixteen of them read into an array or written from one.
+#![tactic(auto)]
 
 ghost use Rattle.std.specs.Prelude.{◌≡◌, ◌+◌, ◌≤◌, length, take, drop, replicate};
 ghost use Rattle.std.proofs.Math.Seq.{paste};

@@ -1,4 +1,5 @@
 // The list of the words that a quorum of the journals shares, fetched in parts. It relies on the promises of `books`, `next_word` and `page` alone.
+#![tactic(auto)]
 
 mod decide;
 
@@ -10,7 +11,7 @@ use decide::{decide, first_due};
 use page::write_page;
 
 // What the list answers: a number of document 01, how many words were written, and whether there are more.
-#[derive(Drop)]
+#[derive(Clone, Copy)]
 pub struct Listed {
     pub number: u8,
     pub written: usize,

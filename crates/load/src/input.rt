@@ -5,7 +5,7 @@ ghost use Rattle.std.specs.Prelude.{◌≤◌, length};
 use libc::ENOENT;
 
 // How many bytes were read, and whether the reading went well.
-#[derive(Drop)]
+#[derive(Clone, Copy)]
 pub(crate) struct Input {
     pub len: usize,
     pub read: bool,

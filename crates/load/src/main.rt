@@ -1,4 +1,5 @@
 // The loading program: reads journal entries from standard input, then the ask, and prints the words that the quorum shares.
+#![tactic(auto)]
 
 mod input;
 mod page;

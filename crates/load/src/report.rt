@@ -25,7 +25,7 @@ const PAGE_WORDS: usize = 1024;
 const TURNS: usize = 9007199254740992;
 
 // How many words were printed, and whether they are all.
-#[derive(Drop)]
+#[derive(Clone, Copy)]
 struct Printed {
     words: usize,
     whole: bool,

@@ -13,14 +13,14 @@ use words::STEP_CODES;
 const HIGHEST_STEP: u8 = STEP_CODES - 1;
 
 // A word of up to 15 steps: those before `len` count.
-#[derive(Drop)]
+#[derive(Clone, Copy)]
 pub struct Word {
     pub steps: [u8; LONGEST_WORD],
     pub len: usize,
 }
 
 // Where a word moved to, if anywhere.
-#[derive(Drop)]
+#[derive(Clone, Copy)]
 pub struct Moved {
     pub found: bool,
     pub word: Word,

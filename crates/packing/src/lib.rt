@@ -1,4 +1,5 @@
 // Answers packed into one number, for callers in C or Rust. Each part stands at a power of two, so that it can be taken out again.
+#![tactic(auto)]
 
 ghost use Rattle.std.specs.Prelude.{◌≡◌, ◌≤◌, ◌<◌};
 ghost use Rattle.records.specs.Sizes.{most_rows, row_record_size};

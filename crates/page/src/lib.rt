@@ -1,4 +1,5 @@
 // One part of the list: words written into the output, every word into its own 16 bytes.
+#![tactic(auto)]
 
 ghost use Rattle.std.specs.Prelude.{◌≡◌, ◌/◌, ◌≤◌, length, take, get_or, ltb};
 ghost use Rattle.records.specs.Sizes.{word_record_size, longest_word};
@@ -12,7 +13,7 @@ use next_word::{Moved, Word, next_word};
 use records::WORD_RECORD;
 
 // How many words were written, and whether a further one remains.
-#[derive(Drop)]
+#[derive(Clone, Copy)]
 pub struct Page {
     pub written: usize,
     pub more: bool,

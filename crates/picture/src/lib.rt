@@ -1,4 +1,5 @@
 // The picture of the journals: the live states, found in scratch by one ascending sweep, and drawn into a row book.
+#![tactic(auto)]
 
 mod arcs;
 mod drawing;

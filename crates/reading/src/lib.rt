@@ -1,4 +1,6 @@
 // The calls that read one book alone. Each call's promise is one equation with a definition of `books`, and holds for every input.
+#![tactic(auto)]
+
 ghost use Rattle.std.specs.Prelude.{◌≡◌};
 ghost use Rattle.books.specs.TableCount.{table_count_call};
 ghost use Rattle.books.specs.JournalCount.{journal_count_call};

@@ -1,5 +1,6 @@
 // The journal book, the row book and the word record as bytes, and when books are sound: definitions and laws, and the
 // sizes of document 01.
+#![tactic(auto)]
 
 // Journal book: its bytes, and those of one of its records.
 pub const JOURNAL_BOOK: usize = 4096;

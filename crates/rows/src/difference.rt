@@ -7,7 +7,7 @@ ghost use Rattle.records.specs.Bytes.{differ};
 use records::{ROW_RECORD, ROWS};
 
 // A row and a byte in it.
-#[derive(Drop)]
+#[derive(Clone, Copy)]
 pub struct Spot {
     pub row: usize,
     pub byte: usize,

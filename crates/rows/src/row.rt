@@ -11,7 +11,7 @@ use records::{ARCS, COUNT, ROW_RECORD};
 use words::STEP_CODES;
 
 // A row: sixteen places, sixteen arcs by step, and the count.
-#[derive(Drop)]
+#[derive(Clone, Copy)]
 pub struct Row {
     pub places: [u8; 16],
     pub arcs: [u16; 16],

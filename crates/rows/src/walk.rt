@@ -11,7 +11,7 @@ use records::ROWS;
 use words::JOURNALS;
 
 // Where a walk ends: in a row, in no row, or in damage.
-#[derive(Drop)]
+#[derive(Clone, Copy)]
 pub enum Walked {
     Row(usize),
     Nowhere,

@@ -1,4 +1,6 @@
 // What a script is made of and what is printed for it, without the books' calls: names, numbers, texts, records, a digest.
+#![tactic(auto)]
+
 pub mod digest;
 pub mod name;
 pub mod number;

@@ -11,14 +11,14 @@ pub const MOST: usize = 8192;
 pub const BROKEN: usize = 0xffffffffffffffff;
 
 // A number that was read, and where it ends.
-#[derive(Drop)]
+#[derive(Clone, Copy)]
 struct Plain {
     value: usize,
     end: usize,
 }
 
 // A number that was read, how many times it stands there, and where its text ends.
-#[derive(Drop)]
+#[derive(Clone, Copy)]
 struct Repeat {
     times: usize,
     value: usize,

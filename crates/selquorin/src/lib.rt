@@ -1,4 +1,5 @@
 // The calls for programs in C or Rust: each is the call of its name, with its answer in one number.
+#![tactic(auto)]
 
 ghost use Rattle.std.specs.Prelude.{◌≡◌, not, eqb};
 ghost use Rattle.books.specs.Clear.{after, clear_call};

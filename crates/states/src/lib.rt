@@ -1,5 +1,6 @@
 // The search for the live states: their sorted keys, swept once in ascending order. A live state that a step leads to stands
 // after the state that it comes from, so that the sweep meets it later.
+#![tactic(auto)]
 
 pub mod nexts;
 pub mod state;

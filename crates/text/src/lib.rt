@@ -1,4 +1,5 @@
 // The text of a line, by value: its bytes, and how many of them count.
+#![tactic(auto)]
 
 ghost use Rattle.std.specs.Prelude.{◌≡◌, cond, [], ◌∷◌, ◌+◌, ◌≤◌, ◌<◌, length, leb};
 ghost use Rattle.text.specs.Text.{decimal, spaced, first_line, word_line, last_line, refused_entry_line, refused_ask_line};
@@ -15,7 +16,7 @@ const LINE_END: u8 = 10;
 const LINE: usize = 96;
 
 // A line of at most 96 bytes. Those behind its text are 0.
-#[derive(Drop)]
+#[derive(Clone, Copy)]
 pub struct Line {
     pub bytes: [u8; LINE],
     pub len: usize,

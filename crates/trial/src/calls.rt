@@ -4,7 +4,7 @@ use books::number::DONE;
 use script::print::{answer, field, wide};
 
 // The number that a row of appends ended with, and how many steps were taken.
-#[derive(Drop)]
+#[derive(Clone, Copy)]
 struct Appended {
     number: u8,
     taken: usize,

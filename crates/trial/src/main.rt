@@ -1,6 +1,7 @@
 // A trial of the books and the list: carries out the script on standard input and prints each line back, with what was
 // answered behind it. A script is text, a command a line; the commands stand at the head of tests/trial.py. Lines that are
 // empty or begin with `#` are printed and nothing else. A line that is no command ends the run, and it is said.
+#![tactic(auto)]
 
 mod calls;
 mod command;

@@ -1,5 +1,6 @@
 // Words, journals, places, states, the picture, dictionary order and the list by quorum: definitions and laws, and the
 // numbers of document 01 that they speak of.
+#![tactic(auto)]
 
 // A step is a code below this.
 pub const STEP_CODES: u8 = 16;

@@ -1,4 +1,6 @@
 // The calls that write the books. Each call's promise is one equation with a definition of `books`, and holds for every input.
+#![tactic(auto)]
+
 mod appending;
 mod opening;
 mod write;
