@@ -1,0 +1,21 @@
+-- `picture::drawing::lay_rows` meets its contract. The loop's invariant: the rows from r on are laid, those before it are zero, and the book keeps its
+-- size. The measure is r. Assumes nothing.
+use Prim.Native.Nat.{ℕ, ◌+◌, ◌-◌, ◌≤◌, ◌<◌}
+use native.Mathlib.Omega.{arith}
+use borrow.Author.Rules.{rules}
+use mathlib.Core.Path.{◌≡◌, ap, ◌∙◌}
+use mathlib.Core.List.{List, []}
+use lib.ListN.{length, get_or, replicate}
+use Rattle.records.specs.RowBook.{unused}
+use Rattle.records.proofs.Replaced.{replaced}
+use Rattle.keys.proofs.Held.{length_keys, keys_wide}
+use Rattle.keys.specs.Keys.{keys_in}
+use Rattle.picture.specs.Laid.{laid}
+use Rattle.picture.proofs.Laid.{blank, Sixteen, laid_start, lays}
+use Rattle.picture.proofs.drawing.lay_rows.Given as goal
+
+abbrev pub invariant-loop-r : goal.invariant-loop-r
+invariant-loop-r l = (l.r ≤ l.n) × (length l.rows ≡ 64000) × (l.rows ≡ laid_from (keys_in l.n l.t) l.r)
+
+abbrev pub decreases-loop-r : goal.decreases-loop-r
+decreases-loop-r l = l.r

@@ -1,0 +1,22 @@
+-- `reading::open_journals` meets its contract: each return is one case of the number of open journals. Assumes nothing.
+use mathlib.Core.Path.{sym, ap, ◌∙◌}
+use Rattle.books.specs.Numbers.{done}
+use Rattle.books.specs.OpenJournals.{open_journals_answer}
+use Rattle.books.proofs.JournalCountCases.{form_by, form_not}
+use Rattle.books.proofs.OpenJournalsCases.{open_size, open_wrong, open_known}
+use borrow.Author.Rules.{rules}
+use Rattle.reading.proofs.open_journals.Goals as goal
+
+pub returns-then-journals-ne-JOURNAL_BOOK : goal.returns-then-journals-ne-JOURNAL_BOOK
+returns-then-journals-ne-JOURNAL_BOOK c = sym (open_size _ c.if-journals-ne-JOURNAL_BOOK.true)
+
+pub returns-then-wrong-ne-JOURNALS : goal.returns-then-wrong-ne-JOURNALS
+returns-then-wrong-ne-JOURNALS c =
+    let sized = c in
+    sym (open_wrong _ sized.if-journals-ne-JOURNAL_BOOK.false (form_not _ sized.if-journals-ne-JOURNAL_BOOK.false (λ e. c.if-wrong-ne-JOURNALS.true (c.first_wrong_record-wrong.ensures ∙ e))))
+
+pub returns : goal.returns
+returns c =
+    let formed = c in
+    let sized = formed in
+    ap (open_journals_answer done) c.open_count.ensures ∙ sym (open_known _ sized.if-journals-ne-JOURNAL_BOOK.false (form_by _ sized.if-journals-ne-JOURNAL_BOOK.false (sym formed.first_wrong_record-wrong.ensures ∙ formed.if-wrong-ne-JOURNALS.false)))

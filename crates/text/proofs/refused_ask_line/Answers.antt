@@ -1,0 +1,25 @@
+-- `text::refused_ask_line` meets its contract: each call puts its part of the text behind the line, and with a byte of at most 3 digits all of it
+-- fits (`Spaced.antt`). Assumes nothing.
+use Rattle.text.specs.Text.{refused_ask_line}
+use Rattle.text.proofs.Spaced.{byte_room}
+use borrow.Author.Rules.{rules}
+use native.Mathlib.Omega.{arith}
+use Rattle.text.proofs.refused_ask_line.Goals as goal
+
+pub spaced-requires : goal.spaced-requires
+spaced-requires c = omega (arith, byte_room c.args.number (search rules))
+
+pub name-requires-2 : goal.name-requires-2
+name-requires-2 c = omega (arith, byte_room c.args.number (search rules))
+
+pub put-requires : goal.put-requires
+put-requires c = omega (arith, byte_room c.args.number (search rules))
+
+-- FIELDS value fits
+pub returns : goal.returns
+unfolding refused_ask_line
+returns c =
+    let d = c in (
+      c.put.ensures.text _ (c.name-2.ensures.text _ (d.spaced.ensures.text _ (d.name.ensures.text _ d.empty.ensures.1))),
+      omega (arith, byte_room d.args.number (search rules)),
+    )
