@@ -19,7 +19,7 @@ loop-s-preserved c =
     let a = c.args in
     let Arcs = arcs_at a.rows.now a.r in
     let z : l.s ≡ 0 + l.s = omega arith in
-    let v : c.arc_at_is.result ≡ get_or Arcs l.s 0 = c.arc_at_is.ensures ∙ sym (at_step (arc_at a.rows.now a.r) l.s (omega arith)) in (
+    let v : c.arc_at.result ≡ get_or Arcs l.s 0 = c.arc_at.ensures ∙ sym (at_step (arc_at a.rows.now a.r) l.s (omega arith)) in (
       omega arith,
       rw (add-one, v)
           (ap₂ (λ (x : List ℕ) (m : ℕ). set x m (get_or Arcs l.s 0)) l.invariant.1 z ∙ paste-suc (replicate 16 0) 0 Arcs l.s 0 (omega arith) (omega arith)),

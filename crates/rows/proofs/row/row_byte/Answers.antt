@@ -9,35 +9,19 @@ use mir.Syntax.{w16}
 use mir.Val.{Fits}
 use Rattle.records.proofs.RowRecord.{byte_low, byte_high, byte_count, byte_behind}
 use Rattle.rows.proofs.row.row_byte.Goals as goal
-use Rattle.rows.proofs.row.row_byte.Goals.{Start}
-
-places-long : (s : Start) → length s.args.row.places ≡ 16
-places-long s = search rules
-
-arcs-long : (s : Start) → length s.args.row.arcs ≡ 16
-arcs-long s = search rules
-
-arc-fits : (s : Start) (i : ℕ) → Fits w16 (get_or s.args.row.arcs i 0)
-arc-fits s i = search rules
 
 pub returns-then-c-eq0 : goal.returns-then-c-eq0
-returns-then-c-eq0 c =
-    let s = c in
-    sym (byte_low _ _ _ _ (places-long s) (arcs-long s) _ (omega arith) (omega arith) (omega arith))
+returns-then-c-eq0 c = sym (byte_low _ _ _ _ (search rules) (search rules) _ (omega arith) (omega arith) (omega arith))
 
 pub returns-then-c-lt-COUNT : goal.returns-then-c-lt-COUNT
 returns-then-c-lt-COUNT c =
-    let s = c in
-    let i = (s.args.c - 16) / 2 in
-    let e : get_or s.args.row.arcs i 0 / 256 % 256 ≡ get_or s.args.row.arcs i 0 / 256 = omega (arith, arc-fits s i) in
-    e ∙ sym (byte_high _ _ _ _ (places-long s) (arcs-long s) _ (omega arith) (omega arith) c.if-c-eq0.false)
+    let i = (c.args.c - 16) / 2 in
+    let fits : Fits w16 (get_or c.args.row.arcs i 0) = search rules in
+    let e : get_or c.args.row.arcs i 0 / 256 % 256 ≡ get_or c.args.row.arcs i 0 / 256 = omega (arith, fits) in
+    e ∙ sym (byte_high _ _ _ _ (search rules) (search rules) _ (omega arith) (omega arith) c.if-c-eq0.false)
 
 pub returns-then-c-eq-COUNT : goal.returns-then-c-eq-COUNT
-returns-then-c-eq-COUNT c =
-    let s = c in
-    sym (byte_count _ _ _ _ (places-long s) (arcs-long s) _ (omega arith))
+returns-then-c-eq-COUNT c = sym (byte_count _ _ _ _ (search rules) (search rules) _ (omega arith))
 
 pub returns : goal.returns
-returns c =
-    let s = c in
-    sym (byte_behind _ _ _ _ (places-long s) (arcs-long s) _ (omega arith) ∙ get_or-replicate 15 (s.args.c - 49) 0 0 (omega arith))
+returns c = sym (byte_behind _ _ _ _ (search rules) (search rules) _ (omega arith) ∙ get_or-replicate 15 (c.args.c - 49) 0 0 (omega arith))

@@ -9,41 +9,39 @@ use lib.Seq.{paste, paste-zero, paste-suc, get_or-drop}
 use Rattle.records.specs.RowBook.{record_of_row, behind_count}
 use Rattle.records.proofs.RowRecord.{record_length}
 use Rattle.rows.proofs.row.write_sixteen.Goals as goal
-use Rattle.rows.proofs.row.write_sixteen.Goals.{Start}
-
-abbrev Record : Start → List ℕ
-Record s = record_of_row s.args.row.places s.args.row.arcs s.args.row.count behind_count
 
 -- the record from `first` on
-abbrev Rest : Start → List ℕ
-Rest s = drop s.args.first (Record s)
-
-rest-long : (s : Start) → length (Rest s) ≡ 64 - s.args.first
-rest-long s =
-    length-drop s.args.first (Record s)
-    ∙ ap
-    (λ (n : ℕ). n - s.args.first)
-    (record_length s.args.row.places s.args.row.arcs s.args.row.count behind_count (search rules) (search rules) refl)
+rest_long : (places arcs : List ℕ) (count first : ℕ) → length places ≡ 16 → length arcs ≡ 16 → length (drop first (record_of_row places arcs count behind_count)) ≡ 64 - first
+rest_long places arcs count first p a =
+    length-drop first (record_of_row places arcs count behind_count)
+    ∙ ap (λ (n : ℕ). n - first) (record_length places arcs count behind_count p a refl)
 
 pub loop-i-init : goal.loop-i-init
-loop-i-init c = let s = c in (omega arith, refl, paste-zero s.args.rows.now (s.args.at + s.args.first) (Rest s))
+loop-i-init c =
+    let a = c.args in (
+      omega arith,
+      refl,
+      paste-zero a.rows.now (a.at + a.first) (drop a.first (record_of_row a.row.places a.row.arcs a.row.count behind_count)),
+    )
 
 pub loop-i-preserved : goal.loop-i-preserved
 loop-i-preserved c =
     let l = c.loop-i in
-    let s = c in
-    let a = s.args in
-    let byte : c.row_byte.result ≡ get_or (Rest s) l.i 0 = c.row_byte.ensures ∙ sym (get_or-drop a.first (Record s) l.i 0) in (
+    let a = c.args in
+    let Record = record_of_row a.row.places a.row.arcs a.row.count behind_count in
+    let Rest = drop a.first Record in
+    let long : length Rest ≡ 64 - a.first = rest_long a.row.places a.row.arcs a.row.count a.first (search rules) (search rules) in
+    let byte : c.row_byte.result ≡ get_or Rest l.i 0 = c.row_byte.ensures ∙ sym (get_or-drop a.first Record l.i 0) in (
       omega arith,
       simp length-set l.invariant.1,
       rw add-one
           (ap₂ (λ (x : List ℕ) (b : ℕ). set x (a.at + a.first + l.i) b) l.invariant.2 byte
-          ∙ paste-suc a.rows.now (a.at + a.first) (Rest s) l.i 0 (omega arith) (omega (arith, rest-long s))),
+          ∙ paste-suc a.rows.now (a.at + a.first) Rest l.i 0 (omega arith) (omega arith)),
     )
 
 pub returns : goal.returns
 returns c =
     let l = c.loop-i in
-    let s = c in
+    let a = c.args in
     let e : l.i ≡ 16 = omega arith in
-    l.invariant.2 ∙ ap (paste s.args.rows.now (s.args.at + s.args.first) (Rest s)) e
+    l.invariant.2 ∙ ap (paste a.rows.now (a.at + a.first) (drop a.first (record_of_row a.row.places a.row.arcs a.row.count behind_count))) e
