@@ -1,7 +1,7 @@
 use borrow.Author.Rules.{rules}
 use native.Mathlib.Omega.{arith}
-use mathlib.Core.Path.{◌≡◌, refl, subst}
-use Prim.Native.Nat.{◌+◌, ◌*◌, ◌-◌, ◌≤◌, ◌<◌}
+use mathlib.Core.Path.{refl, subst}
+use Prim.Native.Nat.{◌+◌, ◌*◌}
 use Rattle.rows.proofs.Alike.{Alike, alike_start, alike_on, alike_stop, alike_end}
 use Rattle.rows.proofs.difference.first_difference.Goals as goal
 

@@ -1,10 +1,8 @@
 -- `difference::first_difference` meets its contract. The invariants: all bytes of the rows before the present one are alike, and in it
 -- those before the present byte. The measures are what is left of the rows and of the bytes. Assumes nothing.
-use borrow.Author.Rules.{rules}
-use native.Mathlib.Omega.{arith}
-use mathlib.Core.Path.{◌≡◌, refl, subst}
+use mathlib.Core.Path.{◌≡◌}
 use Prim.Native.Nat.{◌+◌, ◌*◌, ◌-◌, ◌≤◌, ◌<◌}
-use Rattle.rows.proofs.Alike.{Alike, alike_start, alike_on, alike_stop, alike_end}
+use Rattle.rows.proofs.Alike.{Alike}
 use Rattle.rows.proofs.difference.first_difference.Given as goal
 
 abbrev pub invariant-loop-byte : goal.invariant-loop-byte

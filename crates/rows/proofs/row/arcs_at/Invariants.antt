@@ -1,15 +1,9 @@
 -- `row::arcs_at` meets its contract. The loop's invariant: the first s arcs are pasted over 16 zeros. The measure is how many steps are left. After
 -- 16 turns nothing is left of the zeros. Assumes nothing.
-use Prim.Native.Nat.{ℕ, ◌+◌, ◌-◌, ◌≤◌}
-use native.Mathlib.Numerals.{add-one}
-use native.Mathlib.Omega.{arith}
-use borrow.Author.Rules.{rules}
-use mathlib.Core.Path.{◌≡◌, refl, sym, ap, ap₂, ◌∙◌}
-use mathlib.Core.List.{List, append-nil}
-use lib.ListN.{take, get_or, set, replicate}
-use lib.Seq.{paste, paste-suc, take_all}
-use Rattle.words.proofs.Codes.{at_step}
-use Rattle.records.specs.RowBook.{arc_at, arcs_at}
+use Prim.Native.Nat.{◌-◌, ◌≤◌}
+use mathlib.Core.Path.{◌≡◌}
+use lib.Seq.{paste}
+use Rattle.records.specs.RowBook.{arcs_at}
 use Rattle.rows.proofs.row.arcs_at.Given as goal
 
 abbrev pub invariant-loop-s : goal.invariant-loop-s

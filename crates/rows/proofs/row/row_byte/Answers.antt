@@ -1,10 +1,10 @@
 -- `row::row_byte` meets its contract. A record's byte is known by the range that it stands in; the tests say which, and an arc is
 -- below 65,536, so that its high byte is a 256th of it. Assumes nothing.
-use Prim.Native.Nat.{ℕ, ◌-◌, ◌/◌, ◌%◌}
+use Prim.Native.Nat.{◌-◌, ◌/◌, ◌%◌}
 use native.Mathlib.Omega.{arith}
 use borrow.Author.Rules.{rules}
 use mathlib.Core.Path.{◌≡◌, sym, ◌∙◌}
-use lib.ListN.{length, get_or, get_or-replicate}
+use lib.ListN.{get_or, get_or-replicate}
 use mir.Syntax.{w16}
 use mir.Val.{Fits}
 use Rattle.records.proofs.RowRecord.{byte_low, byte_high, byte_count, byte_behind}

@@ -1,15 +1,10 @@
 -- `row::write_sixteen` meets its contract. The loop's invariant: the first i bytes of the record's part are pasted over the rows from
 -- `at + first` on, and there are as many bytes as there were. The measure is how many of the sixteen are left. Assumes nothing.
-use Prim.Native.Nat.{ℕ, ◌+◌, ◌-◌, ◌≤◌}
-use native.Mathlib.Numerals.{add-one}
-use native.Mathlib.Omega.{arith}
-use borrow.Author.Rules.{rules}
-use mathlib.Core.Path.{◌≡◌, refl, sym, ap, ap₂, ◌∙◌}
-use mathlib.Core.List.{List}
-use lib.ListN.{length, drop, get_or, set, length-set, length-drop}
-use lib.Seq.{paste, paste-zero, paste-suc, get_or-drop}
+use Prim.Native.Nat.{◌+◌, ◌-◌, ◌≤◌}
+use mathlib.Core.Path.{◌≡◌}
+use lib.ListN.{length, drop}
+use lib.Seq.{paste}
 use Rattle.records.specs.RowBook.{record_of_row, behind_count}
-use Rattle.records.proofs.RowRecord.{record_length}
 use Rattle.rows.proofs.row.write_sixteen.Given as goal
 
 abbrev pub invariant-loop-i : goal.invariant-loop-i

@@ -1,7 +1,6 @@
 -- `walk::bad_arc` meets its contract: each return is one case of a bad arc. The count is read only where the arc is
 -- a row's number. Assumes nothing.
 use native.Mathlib.Omega.{arith}
-use borrow.Author.Rules.{rules}
 use borrow.Author.Tests.{eq-eqb}
 use mathlib.Core.Path.{sym, ap, ◌∙◌}
 use lib.Dec.{ltb}

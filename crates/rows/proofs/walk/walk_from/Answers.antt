@@ -1,7 +1,5 @@
 use borrow.Author.Rules.{rules}
-use mathlib.Core.Path.{◌≡◌, sym, ◌∙◌}
-use lib.ListN.{drop}
-use Rattle.rows.specs.Walk.{along, walk_from}
+use mathlib.Core.Path.{sym, ◌∙◌}
 use Rattle.rows.proofs.Steps.{step_code}
 use Rattle.rows.proofs.Arcs.{from_on_lem, from_end, along_zero, along_bad, along_good, good_row}
 use Rattle.rows.proofs.walk.walk_from.Goals as goal

@@ -1,14 +1,11 @@
 -- `walk::walk_from` meets its contract. The invariant: r is a row, and the whole walk ends where the walk from r
 -- under what is left of the word ends. An arc that isn't bad is a row again. The measure is what is left of the word.
 -- Assumes nothing.
-use Prim.Native.Nat.{◌+◌, ◌≤◌, ◌<◌, ◌-◌}
-use borrow.Author.Rules.{rules}
-use mathlib.Core.Path.{◌≡◌, sym, ◌∙◌}
+use Prim.Native.Nat.{◌≤◌, ◌<◌, ◌-◌}
+use mathlib.Core.Path.{◌≡◌}
 use lib.ListN.{length, drop}
 use Rattle.records.specs.Sizes.{most_rows}
-use Rattle.rows.specs.Walk.{along, walk_from}
-use Rattle.rows.proofs.Steps.{step_code}
-use Rattle.rows.proofs.Arcs.{from_on_lem, from_end, along_zero, along_bad, along_good, good_row}
+use Rattle.rows.specs.Walk.{walk_from}
 use Rattle.rows.proofs.walk.walk_from.Given as goal
 
 abbrev pub invariant-loop-i : goal.invariant-loop-i

@@ -1,6 +1,5 @@
 -- `walk::walk_to` meets its contract: each return is one case of how a walk starts. Assumes nothing.
 use native.Mathlib.Omega.{arith}
-use borrow.Author.Rules.{rules}
 use mathlib.Core.Path.{sym, ◌∙◌}
 use Rattle.rows.proofs.Arcs.{start_many, start_none, start_row}
 use Rattle.rows.proofs.walk.walk_to.Goals as goal
