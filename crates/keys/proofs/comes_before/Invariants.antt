@@ -1,12 +1,9 @@
 -- `keys::comes_before` meets its contract. The loop's invariant: the first i bytes are equal, so the answer is that of the rest. The first bytes that
 -- differ decide, and equal keys come neither first. Assumes nothing.
 use Prim.Native.Nat.{◌-◌, ◌≤◌}
-use native.Mathlib.Omega.{arith}
-use mathlib.Core.Path.{◌≡◌, refl, sym, ◌∙◌}
+use mathlib.Core.Path.{◌≡◌}
 use lib.ListN.{length, drop}
-use borrow.Author.Rules.{rules}
 use Rattle.words.specs.Order.{before}
-use Rattle.keys.proofs.Order.{before_end, before_here, before_next}
 use Rattle.keys.proofs.comes_before.Given as goal
 
 abbrev pub invariant-loop-i : goal.invariant-loop-i

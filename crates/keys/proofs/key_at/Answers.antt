@@ -1,6 +1,5 @@
 -- `keys::key_at` meets its contract: the sixteen bytes that it reads are those of key i. Assumes nothing.
 use mathlib.Core.Path.{◌∙◌}
-use borrow.Author.Rules.{rules}
 use Rattle.keys.proofs.Held.{keys_at}
 use Rattle.keys.proofs.key_at.Goals as goal
 

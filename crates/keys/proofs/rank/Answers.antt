@@ -1,8 +1,7 @@
-use Prim.Native.Nat.{◌+◌, ◌-◌, ◌/◌, ◌≤◌}
+use Prim.Native.Nat.{◌+◌, ◌-◌, ◌/◌}
 use native.Mathlib.Omega.{arith}
 use mathlib.Core.Path.{sym, ◌∙◌}
-use borrow.Author.Rules.{rules}
-use Rattle.keys.specs.Keys.{keys_in, rank_of}
+use Rattle.keys.specs.Keys.{keys_in}
 use Rattle.keys.proofs.Held.{length_keys}
 use Rattle.keys.proofs.Ranks.{rank_most}
 use Rattle.keys.proofs.KeyCompared.{rank_past, rank_within}

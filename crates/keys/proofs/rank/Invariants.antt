@@ -1,13 +1,7 @@
 -- `keys::rank` meets its contract. The loop's invariant: the rank lies between `low` and `high`. The key in the middle says on which side, since the
 -- keys ascend. The measure is what lies between. Assumes nothing.
-use Prim.Native.Nat.{◌+◌, ◌-◌, ◌/◌, ◌≤◌}
-use native.Mathlib.Omega.{arith}
-use mathlib.Core.Path.{sym, ◌∙◌}
-use borrow.Author.Rules.{rules}
+use Prim.Native.Nat.{◌-◌, ◌≤◌}
 use Rattle.keys.specs.Keys.{keys_in, rank_of}
-use Rattle.keys.proofs.Held.{length_keys}
-use Rattle.keys.proofs.Ranks.{rank_most}
-use Rattle.keys.proofs.KeyCompared.{rank_past, rank_within}
 use Rattle.keys.proofs.rank.Given as goal
 
 abbrev pub invariant-loop-low : goal.invariant-loop-low

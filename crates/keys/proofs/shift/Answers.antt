@@ -1,8 +1,8 @@
-use Prim.Native.Nat.{ℕ, ◌+◌, ◌-◌, ◌≤◌}
+use Prim.Native.Nat.{ℕ, ◌+◌, ◌-◌}
 use native.Mathlib.Omega.{arith}
 use mathlib.Core.Path.{◌≡◌, refl, ap, ◌∙◌}
 use mathlib.Core.List.{List}
-use lib.ListN.{length, set, get_or, length-set}
+use lib.ListN.{set, get_or, length-set}
 use borrow.Author.Rules.{rules}
 use Rattle.keys.specs.Keys.{shifted}
 use Rattle.keys.proofs.RoomForKey.{shift_start, shift_step}

@@ -1,12 +1,8 @@
 -- `keys::shift` meets its contract. The loop's invariant: the bytes from i up to e are shifted. The measure is how far i is above a. Assumes nothing.
-use Prim.Native.Nat.{ℕ, ◌+◌, ◌-◌, ◌≤◌}
-use native.Mathlib.Omega.{arith}
-use mathlib.Core.Path.{◌≡◌, refl, ap, ◌∙◌}
-use mathlib.Core.List.{List}
-use lib.ListN.{length, set, get_or, length-set}
-use borrow.Author.Rules.{rules}
+use Prim.Native.Nat.{◌-◌, ◌≤◌}
+use mathlib.Core.Path.{◌≡◌}
+use lib.ListN.{length}
 use Rattle.keys.specs.Keys.{shifted}
-use Rattle.keys.proofs.RoomForKey.{shift_start, shift_step}
 use Rattle.keys.proofs.shift.Given as goal
 
 abbrev pub invariant-loop-i : goal.invariant-loop-i
