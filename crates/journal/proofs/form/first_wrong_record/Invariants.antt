@@ -14,7 +14,7 @@ use native.Mathlib.Omega.{arith}
 use Rattle.journal.proofs.form.first_wrong_record.Given as goal
 
 abbrev pub invariant-loop-i : goal.invariant-loop-i
-invariant-loop-i l = (l.i ≤ 16) × (first_wrong_record l.journals ≡ l.i + first_wrong open-before (from 16 l.journals l.i))
+invariant-loop-i l = (l.i ≤ 16) × (first_wrong_record l.journals ≡ l.i + first_wrong l.open_before (from 16 l.journals l.i))
 
 abbrev pub decreases-loop-i : goal.decreases-loop-i
 decreases-loop-i l = 16 - l.i
