@@ -1,13 +1,10 @@
 use mathlib.Core.Path.{◌≡◌, sym, ap, ◌∙◌}
-use mathlib.Core.Logic.{⊎_elim}
 use mathlib.Core.Bool.{Bool}
 use mathlib.Core.List.{List}
-use Prim.Native.Nat.{ℕ, ◌+◌, ◌-◌, ◌≤◌}
-use lib.ListN.{length, drop, get_or}
-use Rattle.words.specs.Words.{is_in, count}
+use Prim.Native.Nat.{ℕ}
+use Rattle.words.specs.Words.{is_in}
 use Rattle.records.specs.JournalBook.{journals_of}
 use Rattle.journal.proofs.Journals.{form_size, form_few, count_in, count_out, count_end}
-use borrow.Author.Rules.{rules}
 use native.Mathlib.Omega.{arith}
 use Rattle.journal.proofs.book.count_in.Goals as goal
 use Rattle.journal.proofs.book.count_in.Goals.{then-is_in, else-is_in}
@@ -33,9 +30,9 @@ loop-i-preserved c =
     let js = journals_of c.args.journals.now in
     let w = c.args.word.now in
     let i = c.loop-i.i in
-    elim c.if-is_in.branch
-    [ then-is_in v ↦ omega (arith, count_in js w i (omega arith) (told w c.journal_at.ensures c.is_in.ensures v.if-is_in.true))
-    | else-is_in v ↦ omega (arith, count_out js w i (omega arith) (told w c.journal_at.ensures c.is_in.ensures v.if-is_in.false))
+    elim c.if-is_in.branch [
+      | then-is_in v ↦ omega (arith, count_in js w i (omega arith) (told w c.journal_at.ensures c.is_in.ensures v.if-is_in.true))
+      | else-is_in v ↦ omega (arith, count_out js w i (omega arith) (told w c.journal_at.ensures c.is_in.ensures v.if-is_in.false))
     ]
 
 pub returns : goal.returns

@@ -1,13 +1,12 @@
 use mathlib.Core.Path.{◌≡◌, sym, ap, ◌∙◌}
 use mathlib.Core.Bool.{Bool}
 use mathlib.Core.List.{List}
-use Prim.Native.Nat.{ℕ, ◌+◌, ◌-◌, ◌*◌, ◌≤◌}
+use Prim.Native.Nat.{ℕ, ◌+◌, ◌-◌, ◌*◌}
 use lib.ListN.{length-drop, take, drop}
 use lib.Seq.{length-take-le}
-use Rattle.records.specs.JournalBook.{record_at, wrong_record, first_wrong, first_wrong_record}
+use Rattle.records.specs.JournalBook.{record_at, wrong_record}
 use Rattle.journal.proofs.Parts.{part_of}
-use Rattle.journal.proofs.Records.{from, wrong_start, wrong_here, wrong_next, wrong_end}
-use borrow.Author.Rules.{rules}
+use Rattle.journal.proofs.Records.{wrong_start, wrong_here, wrong_next, wrong_end}
 use native.Mathlib.Omega.{arith}
 use Rattle.journal.proofs.form.first_wrong_record.Goals as goal
 

@@ -5,7 +5,7 @@ use mathlib.Core.Path.{sym, ap, ◌∙◌}
 use mathlib.Core.List.{List}
 use lib.ListN.{length, get_or, set, length-set}
 use Rattle.journal.proofs.Journals.{form_size}
-use Rattle.journal.proofs.Putting.{Room, room_at, put_book}
+use Rattle.journal.proofs.Putting.{room_at, put_book}
 use native.Mathlib.Omega.{arith}
 use Rattle.journal.proofs.writing.with_step.Goals as goal
 
