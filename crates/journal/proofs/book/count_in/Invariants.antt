@@ -1,16 +1,10 @@
 -- `journal::book::count_in` meets its contract. The invariant: n is how many of the journals before journal i have the word in them, so the count is n more
 -- than the count of those from i on, and n is at most i. The measure is how many journals are left. Assumes nothing.
-use mathlib.Core.Path.{◌≡◌, sym, ap, ◌∙◌}
-use mathlib.Core.Logic.{⊎_elim}
-use mathlib.Core.Bool.{Bool}
-use mathlib.Core.List.{[]}
+use mathlib.Core.Path.{◌≡◌}
 use Prim.Native.Nat.{◌+◌, ◌-◌, ◌≤◌}
-use lib.ListN.{length, drop, get_or}
-use Rattle.words.specs.Words.{is_in, count}
+use lib.ListN.{length, drop}
+use Rattle.words.specs.Words.{count}
 use Rattle.records.specs.JournalBook.{journals_of}
-use Rattle.journal.proofs.Journals.{form_size, form_few, count_in, count_out, count_end}
-use borrow.Author.Rules.{rules}
-use native.Mathlib.Omega.{arith}
 use Rattle.journal.proofs.book.count_in.Given as goal
 
 abbrev pub invariant-loop-i : goal.invariant-loop-i

@@ -1,9 +1,4 @@
-use mathlib.Core.Path.{◌≡◌}
-use Prim.Native.Nat.{◌+◌, ◌-◌, ◌≤◌}
-use lib.ListN.{length}
-use Rattle.records.specs.JournalBook.{open_ones, journals_of}
-use Rattle.journal.proofs.Records.{from, open_start, open_stop, open_next, open_end}
-use borrow.Author.Rules.{rules}
+use Rattle.journal.proofs.Records.{open_start, open_stop, open_next, open_end}
 use native.Mathlib.Omega.{arith}
 use Rattle.journal.proofs.book.open_count.Goals as goal
 

@@ -4,9 +4,7 @@ use mathlib.Core.Path.{◌≡◌}
 use Prim.Native.Nat.{◌+◌, ◌-◌, ◌≤◌}
 use lib.ListN.{length}
 use Rattle.records.specs.JournalBook.{open_ones, journals_of}
-use Rattle.journal.proofs.Records.{from, open_start, open_stop, open_next, open_end}
-use borrow.Author.Rules.{rules}
-use native.Mathlib.Omega.{arith}
+use Rattle.journal.proofs.Records.{from}
 use Rattle.journal.proofs.book.open_count.Given as goal
 
 abbrev pub invariant-loop-k : goal.invariant-loop-k

@@ -1,23 +1,18 @@
 use mathlib.Core.Path.{◌≡◌, sym, ap, ◌∙◌}
 use mathlib.Core.Bool.{Bool}
-use Prim.Native.Nat.{◌+◌, ◌-◌, ◌*◌, ◌≤◌}
-use lib.ListN.{length-drop, drop}
+use mathlib.Core.List.{List}
+use Prim.Native.Nat.{ℕ, ◌+◌, ◌-◌, ◌*◌}
+use lib.ListN.{length-drop, take, drop}
 use lib.Seq.{length-take-le}
-use Rattle.records.specs.JournalBook.{record_at, wrong_record, first_wrong, first_wrong_record}
+use Rattle.records.specs.JournalBook.{record_at, wrong_record}
 use Rattle.journal.proofs.Parts.{part_of}
-use Rattle.journal.proofs.Records.{from, wrong_start, wrong_here, wrong_next, wrong_end}
-use borrow.Author.Rules.{rules}
+use Rattle.journal.proofs.Records.{wrong_start, wrong_here, wrong_next, wrong_end}
 use native.Mathlib.Omega.{arith}
 use Rattle.journal.proofs.form.first_wrong_record.Goals as goal
-use Rattle.journal.proofs.form.first_wrong_record.Goals.{After-wrong_record}
 
 -- what the call says of record i
-told : {v : Bool} (c : After-wrong_record) → c.wrong_record.result ≡ v
-    → wrong_record c.loop-i.open-before (record_at c.args.journals.now c.loop-i.i) ≡ v
-told c e =
-    let b = c.args.journals.now in
-    let l = c.loop-i in
-    ap (wrong_record l.open-before) (sym (part_of (256 * l.i) 256 b)) ∙ sym c.wrong_record.ensures ∙ e
+told : (b : List ℕ) (i : ℕ) (o : Bool) {r v : Bool} → r ≡ wrong_record o (take (256 * i + 256 - 256 * i) (drop (256 * i) b)) → r ≡ v → wrong_record o (record_at b i) ≡ v
+told b i o p e = ap (wrong_record o) (sym (part_of (256 * i) 256 b)) ∙ sym p ∙ e
 
 pub loop-i-init : goal.loop-i-init
 loop-i-init c = omega (arith, wrong_start c.args.journals.now)
@@ -32,17 +27,16 @@ pub returns-then-wrong_record : goal.returns-then-wrong_record
 returns-then-wrong_record c =
     let b = c.args.journals.now in
     let l = c.loop-i in
-    omega (arith, wrong_here 16 b l.i (omega arith) l.open-before (told c c.if-wrong_record.true))
+    omega (arith, wrong_here 16 b l.i (omega arith) l.open_before (told b l.i l.open_before c.wrong_record.ensures c.if-wrong_record.true))
 
 pub loop-i-preserved : goal.loop-i-preserved
 loop-i-preserved c =
-    let at-loop = c in
-    let b = at-loop.args.journals.now in
-    let l = at-loop.loop-i in
-    omega (arith, wrong_next 16 b l.i (omega arith) l.open-before (told c c.if-wrong_record.false))
+    let b = c.args.journals.now in
+    let l = c.loop-i in
+    omega (arith, wrong_next 16 b l.i (omega arith) l.open_before (told b l.i l.open_before c.wrong_record.ensures c.if-wrong_record.false))
 
 pub returns : goal.returns
 returns c =
     let b = c.args.journals.now in
     let l = c.loop-i in
-    omega (arith, wrong_end 16 b l.i l.open-before (omega arith))
+    omega (arith, wrong_end 16 b l.i l.open_before (omega arith))

@@ -3,7 +3,6 @@ use mathlib.Core.Path.{ap, ◌∙◌}
 use borrow.Author.Tests.{eq-eqb, ne_eqb}
 use Rattle.records.specs.StepBytes.{steps_form}
 use Rattle.journal.proofs.Parts.{part_rest}
-use borrow.Author.Rules.{rules}
 use Rattle.journal.proofs.form.record_form.Goals as goal
 
 pub returns-then-r-eq1 : goal.returns-then-r-eq1

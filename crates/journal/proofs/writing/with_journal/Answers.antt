@@ -5,7 +5,6 @@ use mathlib.Core.List.{List}
 use lib.ListN.{set}
 use Rattle.journal.proofs.Journals.{form_size}
 use Rattle.journal.proofs.Putting.{opened_book}
-use borrow.Author.Rules.{rules}
 use Rattle.journal.proofs.writing.with_journal.Goals as goal
 
 pub copy_all-requires : goal.copy_all-requires
