@@ -2,7 +2,6 @@
 use borrow.Author.Tests.{eq-eqb, ne_eqb, lt-ltb, le-ltb}
 use Rattle.entries.specs.Entry.{entry_of}
 use Rattle.entries.proofs.NotCode.{not_code}
-use borrow.Author.Rules.{rules}
 use native.Mathlib.Omega.{arith}
 use Rattle.entries.proofs.entry.entry_of.Goals as goal
 

@@ -1,6 +1,5 @@
 -- `entries::reader::entry_at` meets its contract. `read_at` asks the two tests that the code asks, in the same order, so each way out has the answers
 -- that pick its case. Past both tests two bytes are left, so both reads are within the slice. Assumes nothing.
-use borrow.Author.Rules.{rules}
 use borrow.Author.Tests.{le-leb, lt-leb, eq-eqb, ne_eqb}
 use Rattle.entries.specs.Reading.{read_at}
 use Rattle.entries.proofs.reader.entry_at.Goals as goal
