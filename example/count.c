@@ -4,7 +4,7 @@
  *
  * At the root of the repository:
  *
- *     rt staticlib selquorin
+ *     bash rust/archive.sh
  *     cc -Wall -Wextra -std=c99 -Iinclude example/count.c target/staticlib/libselquorin.a -o target/count
  *     target/count
  */

@@ -5,11 +5,9 @@
 set -eu
 cd "$(dirname "$(readlink -f "$0")")/.."
 
-program=target/bin/load
-# rt builds nothing where its stamp says that a crate is proved as it stands: without the program the stamp goes too.
-[ -x "$program" ] || rm -f target/stamp/load
-if [ ! -x "$program" ] || [ -n "$(find crates crates.txt -newer "$program" -print -quit)" ]; then
-  bash example/prove.sh load check >&2
+program=crates/load/out/load
+if [ ! -x "$program" ] || [ -n "$(find crates crates.txt -name out -prune -o -type f -newer "$program" -print -quit)" ]; then
+  bash example/prove.sh load run >&2
   touch -c "$program"
 fi
 

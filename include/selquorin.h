@@ -2,7 +2,7 @@
  * Selquorin for C and C++: in how many journals a word is, and the words that a quorum has in
  * common.
  *
- * The calls stand in libselquorin.a, which `rt staticlib selquorin` makes at the root of the
+ * The calls stand in libselquorin.a, which `bash rust/archive.sh` makes at the root of the
  * repository, as target/staticlib/libselquorin.a. It is for x86-64 Linux.
  *
  * The caller lends all memory. A piece of lent memory is a pointer to its first byte and the number

@@ -1,4 +1,4 @@
-//! Finds libselquorin.a, which `rt staticlib selquorin` makes: in the folder that SELQUORIN_LIB
+//! Finds libselquorin.a, which `bash rust/archive.sh` makes: in the folder that SELQUORIN_LIB
 //! names (from this crate's folder on, if it isn't absolute), or else in target/staticlib of the
 //! repository.
 
@@ -16,7 +16,7 @@ fn main() {
     println!("cargo:rerun-if-changed={}", archive.display());
     assert!(
         archive.is_file(),
-        "there is no {}: run `rt staticlib selquorin` at the root of the repository, or set \
+        "there is no {}: run `bash rust/archive.sh` at the root of the repository, or set \
          SELQUORIN_LIB to the folder that holds libselquorin.a",
         archive.display()
     );

@@ -1,4 +1,4 @@
-// The calls for programs in C or Rust: each is the call of its name, with its answer in one number.
+// The calls for programs in C or Rust: each is the call of its name, with its answer in one number. `selquorin_c` gives them out.
 #![tactic(auto)]
 
 ghost use Rattle.std.specs.Prelude.{◌≡◌, not, eqb};
@@ -19,64 +19,56 @@ ghost use Rattle.selquorin.specs.PackedList.{packed_list};
 use packing::{packed_check, packed_count, packed_journals, packed_page, packed_rows};
 
 // Clears both books.
-#[unsafe(no_mangle)]
-pub extern "C" fn selquorin_clear(journals: &mut [u8], rows: &mut [u8]) -> u8
+pub fn selquorin_clear(journals: &mut [u8], rows: &mut [u8]) -> u8
     ensures { after result journals.new rows.new ≡ clear_call journals.old rows.old }
 {
     writing::clear(journals, rows)
 }
 
 // Opens the next journal.
-#[unsafe(no_mangle)]
-pub extern "C" fn selquorin_open(journals: &mut [u8], rows: &mut [u8]) -> u8
+pub fn selquorin_open(journals: &mut [u8], rows: &mut [u8]) -> u8
     ensures { after result journals.new rows.new ≡ open_call journals.old rows.old }
 {
     writing::open(journals, rows)
 }
 
 // Appends a step to the journal opened last.
-#[unsafe(no_mangle)]
-pub extern "C" fn selquorin_append(journals: &mut [u8], rows: &mut [u8], step: u8) -> u8
+pub fn selquorin_append(journals: &mut [u8], rows: &mut [u8], step: u8) -> u8
     ensures { after result journals.new rows.new ≡ append_call journals.old rows.old step }
 {
     writing::append(journals, rows, step)
 }
 
 // Draws the row book anew from the journal book.
-#[unsafe(no_mangle)]
-pub extern "C" fn selquorin_rebuild(journals: &[u8], rows: &mut [u8]) -> u8
+pub fn selquorin_rebuild(journals: &[u8], rows: &mut [u8]) -> u8
     ensures { after result journals.now rows.new ≡ rebuild_call journals.now rows.old }
 {
     writing::rebuild(journals, rows)
 }
 
 // Counts a word by the row book.
-#[unsafe(no_mangle)]
-pub extern "C" fn selquorin_table_count(rows: &[u8], word: &[u8]) -> u32
+pub fn selquorin_table_count(rows: &[u8], word: &[u8]) -> u32
     ensures { result ≡ packed_count (table_count_call rows.now word.now) }
 {
     packed_count(reading::table_count(rows, word))
 }
 
 // Counts a word by the journal book.
-#[unsafe(no_mangle)]
-pub extern "C" fn selquorin_journal_count(journals: &[u8], word_record: &[u8]) -> u32
+pub fn selquorin_journal_count(journals: &[u8], word_record: &[u8]) -> u32
     ensures { result ≡ packed_count (journal_count_call journals.now word_record.now) }
 {
     packed_count(reading::journal_count(journals, word_record))
 }
 
 // Checks both books.
-#[unsafe(no_mangle)]
-pub extern "C" fn selquorin_check(journals: &[u8], rows: &[u8]) -> u64
+pub fn selquorin_check(journals: &[u8], rows: &[u8]) -> u64
     ensures { result ≡ packed_check (check_call journals.now rows.now) }
 {
     packed_check(checking::check(journals, rows))
 }
 
 // Lists words: from the start if `after` is 0, else after the word of the word record.
-#[unsafe(no_mangle)]
-pub extern "C" fn selquorin_list(
+pub fn selquorin_list(
     journals: &[u8],
     rows: &[u8],
     quorum: usize,
@@ -93,24 +85,21 @@ pub extern "C" fn selquorin_list(
 }
 
 // The number that goes with a row record.
-#[unsafe(no_mangle)]
-pub extern "C" fn selquorin_row_record_number(rows: &[u8], row: usize) -> u8
+pub fn selquorin_row_record_number(rows: &[u8], row: usize) -> u8
     ensures { result ≡ row_record_number_call rows.now row }
 {
     reading::row_record_number(rows, row)
 }
 
 // How many journals are open.
-#[unsafe(no_mangle)]
-pub extern "C" fn selquorin_journals(journals: &[u8]) -> u32
+pub fn selquorin_journals(journals: &[u8]) -> u32
     ensures { result ≡ packed_journals (open_journals_call journals.now) }
 {
     packed_journals(reading::open_journals(journals))
 }
 
 // How many live rows sound books have.
-#[unsafe(no_mangle)]
-pub extern "C" fn selquorin_rows(journals: &[u8], rows: &[u8]) -> u32
+pub fn selquorin_rows(journals: &[u8], rows: &[u8]) -> u32
     ensures { result ≡ packed_rows (live_rows_call journals.now rows.now) }
 {
     packed_rows(checking::live_rows(journals, rows))
