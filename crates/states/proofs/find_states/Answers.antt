@@ -1,45 +1,31 @@
-use Prim.Native.Nat.{◌-◌, ◌≤◌}
 use native.Mathlib.Omega.{arith}
-use mathlib.Core.Path.{◌≡◌, sym, ◌∙◌}
-use lib.ListN.{length}
+use mathlib.Core.Path.{sym, ◌∙◌}
 use borrow.Author.Rules.{rules}
-use Rattle.words.specs.Order.{Ascending}
 use Rattle.keys.proofs.Held.{no_keys}
-use Rattle.keys.specs.Keys.{keys_room, keys_in}
-use Rattle.states.specs.Nexts.{AnyTabled}
-use Rattle.states.specs.Found.{Sweeping}
 use Rattle.states.proofs.Sweeping.{first_key, one_key, one_ascending, sweep_begins, sweep_ends, none_found}
 use Rattle.states.proofs.find_states.Goals as goal
-use Rattle.states.proofs.find_states.Goals.{After-slice_known-2-1, Else-k-eq0, Start}
-
--- the function's start, from where there is a journal, and that from where the loop starts
-abbrev start : Else-k-eq0 → Start
-start c = c
-
-abbrev some : After-slice_known-2-1 → Else-k-eq0
-some c = c
 
 pub returns-then-k-eq0 : goal.returns-then-k-eq0
-returns-then-k-eq0 c js are many tabled = none_found js c.args.t-1.now (many ∙ c.if-k-eq0.true)
+returns-then-k-eq0 c js are many tabled = none_found js c.args.t.now (many ∙ c.if-k-eq0.true)
 
 pub insert-n-requires : goal.insert-n-requires
-insert-n-requires c = (search rules, omega arith, rw (no_keys (start c).args.t-1.now) tt)
+insert-n-requires c = (search rules, omega arith, rw (no_keys c.args.t.now) tt)
 
 pub loop-i-init : goal.loop-i-init
 loop-i-init c =
-    let s = start (some c) in
+    let s = c in
     let put = c.insert-n in
-    let first = put.ensures.0 ∙ first_key _ s.args.t-1.now in (
-      put.auto.0 ∙ s.requires.2,
+    let first = put.ensures.after ∙ first_key _ s.args.t.now in (
+      put.auto.t ∙ s.requires.2,
       omega (arith, one_key _ _ first),
       one_ascending _ _ first,
-      λ js are many tabled. sweep_begins _ _ first js are (λ z. (some c).if-k-eq0.false (sym many ∙ z)),
+      λ js are many tabled. sweep_begins _ _ first js are (λ z. c.if-k-eq0.false (sym many ∙ z)),
     )
 
 pub grow_row-n-requires : goal.grow_row-n-requires
 grow_row-n-requires c =
     let l = c.loop-i in
-    let p = (start (some c)).requires in
+    let p = c.requires in
     (p.0, p.1, l.invariant.0, search rules, l.invariant.1, l.invariant.2, l.invariant.3)
 
 pub returns-then-n-gt-ROWS : goal.returns-then-n-gt-ROWS
@@ -51,15 +37,14 @@ returns-then-n-gt-ROWS c js are many tabled =
 
 pub loop-i-preserved : goal.loop-i-preserved
 loop-i-preserved c =
-    let grown = c in
-    let l = grown.loop-i in (
-      grown.grow_row-n.auto.t ∙ l.invariant.0,
+    let l = c.loop-i in (
+      c.grow_row-n.auto.t ∙ l.invariant.0,
       c.if-n-gt-ROWS.false,
-      grown.grow_row-n.ensures.ascending,
-      λ js are many tabled. (grown.grow_row-n.ensures.swept js are many tabled).few c.if-n-gt-ROWS.false,
+      c.grow_row-n.ensures.ascending,
+      λ js are many tabled. (c.grow_row-n.ensures.swept js are many tabled).few c.if-n-gt-ROWS.false,
     )
 
 pub returns : goal.returns
 returns c js are many tabled =
     let l = c.loop-i in
-    sweep_ends js are l.i l.n l.t-1 (omega arith) (l.invariant.3 js are many tabled)
+    sweep_ends js are l.i l.n l.t (omega arith) (l.invariant.3 js are many tabled)

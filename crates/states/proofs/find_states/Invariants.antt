@@ -1,16 +1,12 @@
 -- `states::find_states` meets its contract. The invariant: the rows before i are done, there are at most 1,000 keys, they ascend, and memory
 -- has its length. With no row left the states are the picture. The measure is 1,000 less i, since i is below the number of keys. Assumes nothing.
 use Prim.Native.Nat.{◌-◌, ◌≤◌}
-use native.Mathlib.Omega.{arith}
-use mathlib.Core.Path.{◌≡◌, sym, ◌∙◌}
+use mathlib.Core.Path.{◌≡◌}
 use lib.ListN.{length}
-use borrow.Author.Rules.{rules}
 use Rattle.words.specs.Order.{Ascending}
-use Rattle.keys.proofs.Held.{no_keys}
 use Rattle.keys.specs.Keys.{keys_room, keys_in}
 use Rattle.states.specs.Nexts.{AnyTabled}
 use Rattle.states.specs.Found.{Sweeping}
-use Rattle.states.proofs.Sweeping.{first_key, one_key, one_ascending, sweep_begins, sweep_ends, none_found}
 use Rattle.states.proofs.find_states.Given as goal
 
 abbrev pub invariant-loop-i : goal.invariant-loop-i

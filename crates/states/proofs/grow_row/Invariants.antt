@@ -1,18 +1,13 @@
 -- `states::grow_row` meets its contract. The invariant: there are at most 1,000 keys, they ascend, and memory keeps its length; of row i the
 -- steps below s are done, and row i still has the key that was read. A turn is one step of the sweep, or finds more than 1,000 live states. The measure is
 -- how many steps are left. Assumes nothing.
-use Prim.Native.Nat.{ℕ, ◌+◌, ◌-◌, ◌≤◌}
-use native.Mathlib.Omega.{arith}
-use mathlib.Core.Path.{◌≡◌, refl, sym, subst, ◌∙◌}
-use mathlib.Core.List.{List}
+use Prim.Native.Nat.{◌-◌, ◌≤◌}
+use mathlib.Core.Path.{◌≡◌}
 use lib.ListN.{length}
-use borrow.Author.Rules.{rules}
 use Rattle.words.specs.Order.{Ascending}
 use Rattle.keys.specs.Keys.{keys_in}
 use Rattle.states.specs.Nexts.{AnyTabled}
-use Rattle.states.specs.Found.{Sweeping}
-use Rattle.states.proofs.Added.{with_ascending}
-use Rattle.states.proofs.Sweeping.{Growing, Grown, row_begins, grown, row_ends}
+use Rattle.states.proofs.Sweeping.{Growing}
 use Rattle.states.proofs.grow_row.Given as goal
 
 abbrev pub invariant-loop-s : goal.invariant-loop-s

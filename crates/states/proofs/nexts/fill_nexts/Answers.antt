@@ -1,10 +1,9 @@
-use Prim.Native.Nat.{ℕ, ◌-◌, ◌≤◌}
+use Prim.Native.Nat.{ℕ, ◌-◌}
 use native.Mathlib.Omega.{arith}
-use mathlib.Core.Path.{◌≡◌, refl, ap, ◌∙◌}
-use lib.ListN.{length, length-set}
-use borrow.Author.Rules.{rules}
+use mathlib.Core.Path.{refl, ap, ◌∙◌}
+use lib.ListN.{length-set}
 use Rattle.states.specs.Nexts.{next_entry}
-use Rattle.states.proofs.Entries.{RightFrom, right_set}
+use Rattle.states.proofs.Entries.{right_set}
 use Rattle.states.proofs.nexts.fill_nexts.Goals as goal
 
 pub loop-x-init : goal.loop-x-init

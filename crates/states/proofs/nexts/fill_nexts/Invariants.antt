@@ -1,12 +1,9 @@
 -- `states::nexts::fill_nexts` meets its contract. The invariant: the entries from x on are right, and there are as many as at the start. Entry x follows
 -- from the one 16 further on, which is among them. The measure is x. Assumes nothing.
-use Prim.Native.Nat.{ℕ, ◌-◌, ◌≤◌}
-use native.Mathlib.Omega.{arith}
-use mathlib.Core.Path.{◌≡◌, refl, ap, ◌∙◌}
-use lib.ListN.{length, length-set}
-use borrow.Author.Rules.{rules}
-use Rattle.states.specs.Nexts.{next_entry}
-use Rattle.states.proofs.Entries.{RightFrom, right_set}
+use Prim.Native.Nat.{◌≤◌}
+use mathlib.Core.Path.{◌≡◌}
+use lib.ListN.{length}
+use Rattle.states.proofs.Entries.{RightFrom}
 use Rattle.states.proofs.nexts.fill_nexts.Given as goal
 
 abbrev pub invariant-loop-x : goal.invariant-loop-x

@@ -1,6 +1,5 @@
 -- `states::nexts::further_on` meets its contract: each answer is that of its test. Assumes nothing.
 use borrow.Author.Tests.{lt-ltb, le-ltb}
-use borrow.Author.Rules.{rules}
 use Rattle.states.proofs.nexts.further_on.Goals as goal
 
 pub returns-then-x-lt-NEXTS : goal.returns-then-x-lt-NEXTS

@@ -1,9 +1,6 @@
 -- `states::nexts::next_entry` meets its contract: each answer is that of the tests that lead to it, and a place within at most 200 steps fits a byte.
 -- Assumes nothing.
-use Prim.Native.Nat.{◌/◌}
-use native.Mathlib.Omega.{arith}
 use borrow.Author.Tests.{lt-ltb, le-ltb, eq-eqb, ne_eqb}
-use borrow.Author.Rules.{rules}
 use Rattle.states.specs.Nexts.{next_entry}
 use Rattle.states.proofs.nexts.next_entry.Goals as goal
 

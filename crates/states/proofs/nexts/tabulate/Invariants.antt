@@ -1,14 +1,11 @@
 -- `states::nexts::tabulate` meets its contract. The invariant: the entries of the journals before journal i are right, and the table is as long as at the
 -- start. The part of journal i, which is within the table since there are at most 16 journals, is filled in by `fill_nexts`. The measure is how many
 -- journals are left. Assumes nothing.
-use Prim.Native.Nat.{◌+◌, ◌*◌, ◌-◌, ◌≤◌}
-use native.Mathlib.Omega.{arith}
-use mathlib.Core.Path.{◌≡◌, refl, ap, ◌∙◌}
+use Prim.Native.Nat.{◌-◌, ◌≤◌}
+use mathlib.Core.Path.{◌≡◌}
 use lib.ListN.{length}
-use borrow.Author.Rules.{rules}
 use Rattle.records.specs.JournalBook.{journals_of}
-use Rattle.journal.proofs.Journals.{form_few, journal_short}
-use Rattle.states.proofs.Entries.{RightBelow, part_size, right_put}
+use Rattle.states.proofs.Entries.{RightBelow}
 use Rattle.states.proofs.nexts.tabulate.Given as goal
 
 abbrev pub invariant-loop-i : goal.invariant-loop-i

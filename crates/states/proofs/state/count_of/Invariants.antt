@@ -1,13 +1,10 @@
 -- `states::state::count_of` meets its contract. The invariant: n of the first i places are not lost, so the count of all k is n more than that of those from i on, and n is
 -- at most i. The measure is how many places are left. Assumes nothing.
 use Prim.Native.Nat.{◌+◌, ◌-◌, ◌≤◌}
-use native.Mathlib.Omega.{arith}
 use mathlib.Core.Path.{◌≡◌}
-use mathlib.Core.Logic.{⊎_elim}
 use lib.ListN.{length, take}
-use borrow.Author.Rules.{rules}
 use Rattle.records.specs.RowBook.{count_byte}
-use Rattle.states.proofs.Live.{places_from, count_here, count_on, count_end}
+use Rattle.states.proofs.Live.{places_from}
 use Rattle.states.proofs.state.count_of.Given as goal
 
 abbrev pub invariant-loop-i : goal.invariant-loop-i

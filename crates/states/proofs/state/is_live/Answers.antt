@@ -1,14 +1,10 @@
-use Prim.Native.Nat.{◌-◌, ◌≤◌}
 use native.Mathlib.Omega.{arith}
-use mathlib.Core.Path.{◌≡◌, refl, sym, ◌∙◌}
-use lib.ListN.{length, take}
-use borrow.Author.Rules.{rules}
-use Rattle.words.specs.Places.{live}
-use Rattle.states.proofs.Live.{places_from, live_here, live_on, live_end}
+use mathlib.Core.Path.{refl, sym, ◌∙◌}
+use Rattle.states.proofs.Live.{live_here, live_on, live_end}
 use Rattle.states.proofs.state.is_live.Goals as goal
 
 pub loop-i-init : goal.loop-i-init
-loop-i-init c = (omega arith, c.well-formed.1.0.1.0.1, refl)
+loop-i-init c = (omega arith, omega arith, refl)
 
 pub returns-then-key-i : goal.returns-then-key-i
 returns-then-key-i c =

@@ -1,12 +1,10 @@
 -- `states::state::is_live` meets its contract. The invariant: i is at most k, and the places from i on are live just when all k are, since those before i
 -- are lost. The measure is how many places are left. Assumes nothing.
 use Prim.Native.Nat.{◌-◌, ◌≤◌}
-use native.Mathlib.Omega.{arith}
-use mathlib.Core.Path.{◌≡◌, refl, sym, ◌∙◌}
+use mathlib.Core.Path.{◌≡◌}
 use lib.ListN.{length, take}
-use borrow.Author.Rules.{rules}
 use Rattle.words.specs.Places.{live}
-use Rattle.states.proofs.Live.{places_from, live_here, live_on, live_end}
+use Rattle.states.proofs.Live.{places_from}
 use Rattle.states.proofs.state.is_live.Given as goal
 
 abbrev pub invariant-loop-i : goal.invariant-loop-i

@@ -1,6 +1,5 @@
 -- `states::state::next_at` meets its contract: a place above 200 is lost, and any other is read in the table. Assumes nothing.
 use mathlib.Core.Path.{sym}
-use borrow.Author.Rules.{rules}
 use Rattle.states.proofs.Stepped.{next_lost, next_read}
 use Rattle.states.proofs.state.next_at.Goals as goal
 

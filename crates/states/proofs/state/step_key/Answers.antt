@@ -1,9 +1,8 @@
-use Prim.Native.Nat.{ℕ, ◌-◌, ◌≤◌}
+use Prim.Native.Nat.{ℕ}
 use native.Mathlib.Omega.{arith}
-use mathlib.Core.Path.{◌≡◌, ap, ap₂, ◌∙◌}
+use mathlib.Core.Path.{ap, ap₂, ◌∙◌}
 use mathlib.Core.List.{List}
 use lib.ListN.{set}
-use borrow.Author.Rules.{rules}
 use Rattle.states.specs.Stepped.{stepped_key}
 use Rattle.states.proofs.Stepped.{stepped_none, stepped_more}
 use Rattle.states.proofs.state.step_key.Goals as goal
@@ -18,7 +17,7 @@ loop-i-preserved c =
     let l = c.loop-i in
     let a = c.args in (
       omega arith,
-      ap₂ (λ (x : List ℕ) (v : ℕ). set x l.i v) l.invariant.1 c.next_at_lem.ensures ∙ stepped_more a.nexts.now a.key a.s l.i (omega arith),
+      ap₂ (λ (x : List ℕ) (v : ℕ). set x l.i v) l.invariant.1 c.next_at.ensures ∙ stepped_more a.nexts.now a.key a.s l.i (omega arith),
     )
 
 pub returns : goal.returns
