@@ -12,10 +12,9 @@ spaced-requires c = omega (arith, number_room c.args.words (search rules))
 pub put-requires : goal.put-requires
 put-requires c = omega (arith, number_room c.args.words (search rules))
 
--- FIELDS value fits
 pub returns : goal.returns
 unfolding last_line
-returns c = (
-  c.put.ensures.text _ (c.spaced.ensures.text _ (c.name.ensures.text _ c.empty.ensures.1)),
-  omega (arith, number_room c.args.words (search rules)),
-)
+returns c = record {
+  value = c.put.ensures.text _ (c.spaced.ensures.text _ (c.name.ensures.text _ c.empty.ensures.1));
+  fits = omega (arith, number_room c.args.words (search rules));
+}

@@ -15,11 +15,9 @@ name-requires-2 c = omega (arith, byte_room c.args.number (search rules))
 pub put-requires : goal.put-requires
 put-requires c = omega (arith, byte_room c.args.number (search rules))
 
--- FIELDS value fits
 pub returns : goal.returns
 unfolding refused_ask_line
-returns c =
-    let d = c in (
-      c.put.ensures.text _ (c.name-2.ensures.text _ (d.spaced.ensures.text _ (d.name.ensures.text _ d.empty.ensures.1))),
-      omega (arith, byte_room d.args.number (search rules)),
-    )
+returns c = record {
+  value = c.put.ensures.text _ (c.name-2.ensures.text _ (c.spaced.ensures.text _ (c.name.ensures.text _ c.empty.ensures.1)));
+  fits = omega (arith, byte_room c.args.number (search rules));
+}

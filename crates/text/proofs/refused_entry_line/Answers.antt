@@ -5,34 +5,22 @@ use Rattle.text.proofs.Spaced.{number_room, byte_room}
 use borrow.Author.Rules.{rules}
 use native.Mathlib.Omega.{arith}
 use Rattle.text.proofs.refused_entry_line.Goals as goal
-use Rattle.text.proofs.refused_entry_line.Goals.{After-spaced, Start}
-
--- the start, from behind the first number
-abbrev start : After-spaced → Start
-start c = c
 
 pub spaced-requires : goal.spaced-requires
 spaced-requires c = omega (arith, byte_room c.args.number (search rules))
 
 pub name-requires-2 : goal.name-requires-2
-name-requires-2 c = omega (arith, byte_room (start c).args.number (search rules))
+name-requires-2 c = omega (arith, byte_room c.args.number (search rules))
 
 pub spaced-requires-2 : goal.spaced-requires-2
-spaced-requires-2 c =
-    let a = (start c).args in
-    omega (arith, byte_room a.number (search rules), number_room a.entry (search rules))
+spaced-requires-2 c = omega (arith, byte_room c.args.number (search rules), number_room c.args.entry (search rules))
 
 pub put-requires : goal.put-requires
-put-requires c =
-    let a = (start c).args in
-    omega (arith, byte_room a.number (search rules), number_room a.entry (search rules))
+put-requires c = omega (arith, byte_room c.args.number (search rules), number_room c.args.entry (search rules))
 
--- FIELDS value fits
 pub returns : goal.returns
 unfolding refused_entry_line
-returns c =
-    let at-number = c in
-    let a = (start at-number).args in (
-      c.put.ensures.text _ (c.spaced-2.ensures.text _ (c.name-2.ensures.text _ (at-number.spaced.ensures.text _ (at-number.name.ensures.text _ at-number.empty.ensures.1)))),
-      omega (arith, byte_room a.number (search rules), number_room a.entry (search rules)),
-    )
+returns c = record {
+  value = c.put.ensures.text _ (c.spaced-2.ensures.text _ (c.name-2.ensures.text _ (c.spaced.ensures.text _ (c.name.ensures.text _ c.empty.ensures.1))));
+  fits = omega (arith, byte_room c.args.number (search rules), number_room c.args.entry (search rules));
+}

@@ -1,11 +1,8 @@
-use Prim.Native.Nat.{◌+◌, ◌*◌, ◌-◌, ◌≤◌, ◌<◌}
-use mathlib.Core.Path.{◌≡◌}
-use mathlib.Core.List.{◌∷◌, ◌++◌}
-use lib.ListN.{length, take, get_or}
+use Prim.Native.Nat.{◌≤◌, ◌<◌}
+use lib.ListN.{length, get_or}
 use lib.Seq.{take_all}
 use borrow.Author.Tests.{lt-leb, le-leb}
-use Rattle.text.specs.Text.{decimal, spaced, word_line}
-use Rattle.text.specs.Lines.{line_of}
+use Rattle.text.specs.Text.{decimal, word_line}
 use Rattle.text.proofs.Spaced.{spaced_more, byte_room, byte_first}
 use borrow.Author.Rules.{rules}
 use native.Mathlib.Omega.{arith}
@@ -14,7 +11,7 @@ use Rattle.text.proofs.word_line.Goals as goal
 pub returns-then-word-gt-LONGEST_WORD : goal.returns-then-word-gt-LONGEST_WORD
 returns-then-word-gt-LONGEST_WORD c =
     let w = c.args.word.now in
-    (rw (lt-leb (length w) 15 c.if-word-gt-LONGEST_WORD.true) c.empty.ensures.1, omega arith)
+    record { value = rw (lt-leb (length w) 15 c.if-word-gt-LONGEST_WORD.true) c.empty.ensures.1; fits = omega arith }
 
 pub number-requires : goal.number-requires
 number-requires c = byte_first _ _ c.empty-2.ensures.0 (omega arith)
@@ -34,34 +31,29 @@ loop-i-init c =
 
 pub spaced-line-requires-in-loop-i : goal.spaced-line-requires-in-loop-i
 spaced-line-requires-in-loop-i c =
-    let at-loop = c in
-    let i = at-loop.loop-i.i in
-    let w = at-loop.args.word.now in
+    let i = c.loop-i.i in
+    let w = c.args.word.now in
     let b : get_or w i 0 < 256 = omega (arith, c.type_inv.word i) in
     omega (arith, byte_room (get_or w i 0) b)
 
 pub loop-i-preserved : goal.loop-i-preserved
 loop-i-preserved c =
-    let at-loop = c in
-    let l = at-loop.loop-i in
-    let i = l.i in
-    let a = at-loop.args in
+    let i = c.loop-i.i in
+    let a = c.args in
     let w = a.word.now in
     let b : get_or w i 0 < 256 = omega (arith, c.type_inv.word i) in (
       omega arith,
       omega (arith, byte_room (get_or w i 0) b),
-      rw (spaced_more (decimal (length w)) a.count w i (omega arith)) (c.spaced-line-in-loop-i.ensures.text _ l.invariant.2),
+      rw (spaced_more (decimal (length w)) a.count w i (omega arith)) (c.spaced-line-in-loop-i.ensures.text _ c.loop-i.invariant.2),
     )
 
--- FIELDS value fits
 pub returns : goal.returns
 unfolding word_line
 returns c =
-    let at-loop = c in
-    let l = at-loop.loop-i in
-    let a = at-loop.args in
-    let w = a.word.now in
-    let e : length w ≤ 15 = omega arith in (
-      rw (le-leb (length w) 15 e) (rw (take_all l.i w (omega arith)) at (c.put.ensures.text _ l.invariant.2)),
-      omega arith,
-    )
+    let l = c.loop-i in
+    let w = c.args.word.now in
+    let e : length w ≤ 15 = omega arith in
+    record {
+      value = rw (le-leb (length w) 15 e) (rw (take_all l.i w (omega arith)) at (c.put.ensures.text _ l.invariant.2));
+      fits = omega arith;
+    }

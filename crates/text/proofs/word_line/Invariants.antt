@@ -1,16 +1,11 @@
 -- `text::word_line` meets its contract. The invariant: the line is the word's length, its count and its first i steps, in at most 3 bytes and 4 for
 -- each number behind the first. The measure is the number of steps left. Assumes nothing.
-use Prim.Native.Nat.{◌+◌, ◌*◌, ◌-◌, ◌≤◌, ◌<◌}
+use Prim.Native.Nat.{◌+◌, ◌*◌, ◌-◌, ◌≤◌}
 use mathlib.Core.Path.{◌≡◌}
 use mathlib.Core.List.{◌∷◌, ◌++◌}
-use lib.ListN.{length, take, get_or}
-use lib.Seq.{take_all}
-use borrow.Author.Tests.{lt-leb, le-leb}
-use Rattle.text.specs.Text.{decimal, spaced, word_line}
+use lib.ListN.{length, take}
+use Rattle.text.specs.Text.{decimal, spaced}
 use Rattle.text.specs.Lines.{line_of}
-use Rattle.text.proofs.Spaced.{spaced_more, byte_room, byte_first}
-use borrow.Author.Rules.{rules}
-use native.Mathlib.Omega.{arith}
 use Rattle.text.proofs.word_line.Given as goal
 
 abbrev pub invariant-loop-i : goal.invariant-loop-i

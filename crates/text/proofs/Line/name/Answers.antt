@@ -1,8 +1,5 @@
-use Prim.Native.Nat.{◌-◌, ◌≤◌}
 use native.Mathlib.Numerals.{add-one}
-use lib.ListN.{length, take}
 use lib.Seq.{length-take-le, take-suc, take_all}
-use Rattle.text.specs.Lines.{Longer}
 use Rattle.text.proofs.Longer.{longer_none, longer_on}
 use borrow.Author.Rules.{rules}
 use native.Mathlib.Omega.{arith}

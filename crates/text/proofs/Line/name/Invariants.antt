@@ -1,13 +1,8 @@
 -- `text::Line::name` meets its contract. The invariant: the line is the one given with the first i bytes of the name behind it. The measure is what
 -- is left of the name. Assumes nothing.
 use Prim.Native.Nat.{◌-◌, ◌≤◌}
-use native.Mathlib.Numerals.{add-one}
 use lib.ListN.{length, take}
-use lib.Seq.{length-take-le, take-suc, take_all}
 use Rattle.text.specs.Lines.{Longer}
-use Rattle.text.proofs.Longer.{longer_none, longer_on}
-use borrow.Author.Rules.{rules}
-use native.Mathlib.Omega.{arith}
 use Rattle.text.proofs.Line.name.Given as goal
 
 abbrev pub invariant-loop-i : goal.invariant-loop-i
