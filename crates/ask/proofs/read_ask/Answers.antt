@@ -2,7 +2,6 @@
 -- Assumes nothing.
 use mathlib.Core.Path.{sym, ◌∙◌}
 use Rattle.ask.proofs.AskCases.{empty_file, two_bytes_is, wrong_file}
-use borrow.Author.Rules.{rules}
 use native.Mathlib.Omega.{arith}
 use Rattle.ask.proofs.read_ask.Goals as goal
 
