@@ -4,7 +4,6 @@ use Rattle.books.specs.Numbers.{done}
 use Rattle.books.specs.OpenJournals.{open_journals_answer}
 use Rattle.books.proofs.JournalCountCases.{form_by, form_not}
 use Rattle.books.proofs.OpenJournalsCases.{open_size, open_wrong, open_known}
-use borrow.Author.Rules.{rules}
 use Rattle.reading.proofs.open_journals.Goals as goal
 
 pub returns-then-journals-ne-JOURNAL_BOOK : goal.returns-then-journals-ne-JOURNAL_BOOK

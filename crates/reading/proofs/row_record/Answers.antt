@@ -16,19 +16,19 @@ returns-then-row_record_number-ne-DONE c = sym (row_record_refused _ _ (λ z. c.
 pub overflow_add-end : goal.overflow_add-end
 overflow_add-end c =
     let book : (length c.args.rows.now ≡ row_book_size) × (c.args.row < most_rows) =
-      row_in_book _ _ (sym c.row_record_number.ensures ∙ c.if-row_record_number-ne-DONE.false) in
+    row_in_book _ _ (sym c.row_record_number.ensures ∙ c.if-row_record_number-ne-DONE.false) in
     omega arith
 
 pub overflow_mul-end : goal.overflow_mul-end
 overflow_mul-end c =
     let book : (length c.args.rows.now ≡ row_book_size) × (c.args.row < most_rows) =
-      row_in_book _ _ (sym c.row_record_number.ensures ∙ c.if-row_record_number-ne-DONE.false) in
+    row_in_book _ _ (sym c.row_record_number.ensures ∙ c.if-row_record_number-ne-DONE.false) in
     omega arith
 
 pub slice_bounds-result-end-2 : goal.slice_bounds-result-end-2
 slice_bounds-result-end-2 c =
     let book : (length c.args.rows.now ≡ row_book_size) × (c.args.row < most_rows) =
-      row_in_book _ _ (sym c.row_record_number.ensures ∙ c.if-row_record_number-ne-DONE.false) in
+    row_in_book _ _ (sym c.row_record_number.ensures ∙ c.if-row_record_number-ne-DONE.false) in
     search rules
 
 pub returns : goal.returns

@@ -1,6 +1,5 @@
 -- `reading::table_count` meets its contract: each return is one case of the table count, the last three by where the walk
 -- ends. A walk that ends in a row ends in one of the book, so that its count can be read. Assumes nothing.
-use native.Mathlib.Omega.{arith}
 use borrow.Author.Rules.{rules}
 use mathlib.Core.Path.{sym, ap, ◌∙◌}
 use Rattle.books.specs.Numbers.{done}
