@@ -4,7 +4,6 @@ use Rattle.books.specs.Numbers.{done}
 use Rattle.books.specs.OpenJournals.{open_journals_answer}
 use Rattle.books.proofs.JournalCountCases.{form_by, form_not}
 use Rattle.books.proofs.OpenJournalsCases.{open_size, open_wrong, open_known}
-use borrow.Author.Rules.{rules}
 use Rattle.reading.proofs.open_journals.Goals as goal
 
 pub returns-then-journals-ne-JOURNAL_BOOK : goal.returns-then-journals-ne-JOURNAL_BOOK
@@ -12,11 +11,11 @@ returns-then-journals-ne-JOURNAL_BOOK c = sym (open_size _ c.if-journals-ne-JOUR
 
 pub returns-then-wrong-ne-JOURNALS : goal.returns-then-wrong-ne-JOURNALS
 returns-then-wrong-ne-JOURNALS c =
-    let sized = c in
-    sym (open_wrong _ sized.if-journals-ne-JOURNAL_BOOK.false (form_not _ sized.if-journals-ne-JOURNAL_BOOK.false (λ e. c.if-wrong-ne-JOURNALS.true (c.first_wrong_record-wrong.ensures ∙ e))))
+    let size = c.if-journals-ne-JOURNAL_BOOK.false in
+    sym (open_wrong _ size (form_not _ size (λ e. c.if-wrong-ne-JOURNALS.true (c.first_wrong_record-wrong.ensures ∙ e))))
 
 pub returns : goal.returns
 returns c =
-    let formed = c in
-    let sized = formed in
-    ap (open_journals_answer done) c.open_count.ensures ∙ sym (open_known _ sized.if-journals-ne-JOURNAL_BOOK.false (form_by _ sized.if-journals-ne-JOURNAL_BOOK.false (sym formed.first_wrong_record-wrong.ensures ∙ formed.if-wrong-ne-JOURNALS.false)))
+    let size = c.if-journals-ne-JOURNAL_BOOK.false in
+    let right = form_by _ size (sym c.first_wrong_record-wrong.ensures ∙ c.if-wrong-ne-JOURNALS.false) in
+    ap (open_journals_answer done) c.open_count.ensures ∙ sym (open_known _ size right)
