@@ -22,6 +22,10 @@ laid_zeros : (key : List ℕ) → laid key ≡ key ++ replicate 48 0
 unfolding record_of_row
 laid_zeros key = append_assoc key (replicate 32 0) (replicate 16 0)
 
+-- the book of these keys with the rows from r on laid
+abbrev pub laid_from : List (List ℕ) → ℕ → List ℕ
+laid_from keys r = replaced blank laid keys (unused (length keys)) r
+
 -- every key has 16 bytes
 abbrev pub Sixteen : List (List ℕ) → Type 0
 Sixteen keys = Wide (λ a. a) 16 keys

@@ -1,16 +1,10 @@
 -- `picture::arcs::step_row` meets its contract. The loop's invariant: the first s arcs are pasted over the row's own. The measure is how many steps
 -- are left. After 16 turns nothing is left of what the row had. Assumes nothing.
-use Prim.Native.Nat.{ℕ, ◌+◌, ◌-◌, ◌≤◌}
-use native.Mathlib.Numerals.{add-one}
-use native.Mathlib.Omega.{arith}
-use borrow.Author.Rules.{rules}
-use mathlib.Core.Path.{◌≡◌, refl, ap, ap₂, ◌∙◌}
-use mathlib.Core.List.{List, [], ◌++◌, append-nil}
-use lib.ListN.{length, take, drop, get_or, set, drop_of_length-le}
-use lib.Seq.{paste, paste-zero, paste-suc, take_all}
+use Prim.Native.Nat.{◌-◌, ◌≤◌}
+use mathlib.Core.Path.{◌≡◌}
+use lib.Seq.{paste}
 use Rattle.keys.specs.Keys.{keys_in}
 use Rattle.picture.specs.KeyRow.{key_arcs}
-use Rattle.picture.proofs.KeyRow.{length_arcs, arc_at_is}
 use Rattle.picture.proofs.arcs.step_row.Given as goal
 
 abbrev pub invariant-loop-s : goal.invariant-loop-s

@@ -1,19 +1,10 @@
 -- `picture::drawing::draw_rows` meets its contract. The loop's invariant: the rows from i on have their arcs, those before it are laid, and the book keeps
 -- its size. The measure is i. Assumes nothing.
-use Prim.Native.Nat.{ℕ, ◌+◌, ◌-◌, ◌≤◌, ◌<◌}
-use native.Mathlib.Omega.{arith}
-use borrow.Author.Rules.{rules}
-use mathlib.Core.Path.{◌≡◌, ap, ◌∙◌}
-use mathlib.Core.List.{List}
+use Prim.Native.Nat.{◌≤◌}
+use mathlib.Core.Path.{◌≡◌}
 use lib.ListN.{length}
-use Rattle.records.specs.RowBook.{unused}
-use Rattle.records.proofs.Replaced.{replaced_none}
-use Rattle.keys.proofs.Held.{length_keys, keys_wide}
 use Rattle.keys.specs.Keys.{keys_in}
-use Rattle.picture.specs.KeyRow.{key_row}
-use Rattle.picture.specs.Laid.{laid}
-use Rattle.picture.proofs.Laid.{Sixteen}
-use Rattle.picture.proofs.Linked.{linked, links}
+use Rattle.picture.proofs.Linked.{linked}
 use Rattle.picture.proofs.drawing.draw_rows.Given as goal
 
 abbrev pub invariant-loop-i : goal.invariant-loop-i

@@ -1,17 +1,10 @@
 -- `picture::drawing::lay_rows` meets its contract. The loop's invariant: the rows from r on are laid, those before it are zero, and the book keeps its
 -- size. The measure is r. Assumes nothing.
-use Prim.Native.Nat.{ℕ, ◌+◌, ◌-◌, ◌≤◌, ◌<◌}
-use native.Mathlib.Omega.{arith}
-use borrow.Author.Rules.{rules}
-use mathlib.Core.Path.{◌≡◌, ap, ◌∙◌}
-use mathlib.Core.List.{List, []}
-use lib.ListN.{length, get_or, replicate}
-use Rattle.records.specs.RowBook.{unused}
-use Rattle.records.proofs.Replaced.{replaced}
-use Rattle.keys.proofs.Held.{length_keys, keys_wide}
+use Prim.Native.Nat.{◌≤◌}
+use mathlib.Core.Path.{◌≡◌}
+use lib.ListN.{length}
 use Rattle.keys.specs.Keys.{keys_in}
-use Rattle.picture.specs.Laid.{laid}
-use Rattle.picture.proofs.Laid.{blank, Sixteen, laid_start, lays}
+use Rattle.picture.proofs.Laid.{laid_from}
 use Rattle.picture.proofs.drawing.lay_rows.Given as goal
 
 abbrev pub invariant-loop-r : goal.invariant-loop-r
