@@ -3,7 +3,6 @@ use mathlib.Core.Path.{sym, ap, ◌∙◌}
 use Rattle.books.specs.declared.Checked.{Checked}
 use Rattle.books.proofs.Checks.{checked_sizes}
 use Rattle.books.proofs.OpenCases.{open_seen, open_full, open_free}
-use borrow.Author.Rules.{rules}
 use native.Mathlib.Omega.{arith}
 use Rattle.writing.proofs.opening.decide_open.Goals as goal
 
