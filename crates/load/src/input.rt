@@ -2,49 +2,59 @@
 
 ghost use Rattle.std.specs.Prelude.{◌≤◌, length};
 
-use libc::ENOENT;
+use std::fs::File;
+use std::io;
+use std::io::{ErrorKind, Read};
+use std::rt::Files;
 
 // How many bytes were read, and whether the reading went well.
-#[derive(Clone, Copy)]
+#[derive(Drop)]
 pub(crate) struct Input {
     pub len: usize,
-    pub read: bool,
+    pub read: io::Result<()>,
 }
 
 // Reads until the buffer is full, the input ends or a read fails.
-pub(crate) fn read_input(fd: i32, buffer: &mut [u8]) -> Input
+pub(crate) fn read_input<R: Read>(input: &mut R, buffer: &mut [u8]) -> Input
     ensures { result.len ≤ length buffer.old }
 {
     let mut n = 0;
     while n < buffer.len() {
-        let got = libc::read(fd, &mut buffer[n..]);
-        if got < 0 {
-            return Input {
-                len: n,
-                read: false,
-            };
+        match input.read(&mut buffer[n..]) {
+            Err(error) => {
+                return Input {
+                    len: n,
+                    read: Err(error),
+                };
+            }
+            Ok(0) => {
+                return Input {
+                    len: n,
+                    read: Ok(()),
+                };
+            }
+            Ok(more) => n += more,
         }
-        let more = io::count(got, &buffer[n..]);
-        if more == 0 {
-            return Input { len: n, read: true };
-        }
-        n += more;
     }
-    Input { len: n, read: true }
+    Input {
+        len: n,
+        read: Ok(()),
+    }
 }
 
 // Reads the ask file in the current folder; a missing one is as an empty one.
-pub(crate) fn read_ask_file(buffer: &mut [u8]) -> Input
+pub(crate) fn read_ask_file(rt: &impl Files, buffer: &mut [u8]) -> Input
     ensures { result.len ≤ length buffer.old }
 {
-    let fd = os::open_read(b"ask.bin");
-    if fd < 0 {
-        return Input {
+    match File::open(rt, "ask.bin") {
+        Ok(mut file) => read_input(&mut file, buffer),
+        Err(error) if error.kind() == ErrorKind::NotFound => Input {
             len: 0,
-            read: os::errno() == ENOENT,
-        };
+            read: Ok(()),
+        },
+        Err(error) => Input {
+            len: 0,
+            read: Err(error),
+        },
     }
-    let got = read_input(fd, buffer);
-    libc::close(fd);
-    got
 }

@@ -6,12 +6,12 @@ ghost use Rattle.words.specs.Listing.{list_of};
 ghost use Rattle.records.specs.JournalBook.{journals_of};
 ghost use Rattle.text.specs.Lines.{line_size};
 
-use crate::page::{least, page_text};
+use crate::list_page::{least, page_text};
 use ask::Ask;
 use books::number::DONE;
 use lent_bytes::sixteen_at;
-use libc::STDOUT_FILENO;
 use records::WORD_RECORD;
+use std::io;
 use text::Line;
 
 // The bytes of a page of 1,024 words, and of its text: a line has at most 96 bytes.
@@ -31,36 +31,43 @@ struct Printed {
     whole: bool,
 }
 
+// Writes a line to standard error: what failed, a colon and the error's text.
+pub(crate) fn say_failed(rt: &impl Eprint, what: &str, error: &io::Error) {
+    let _ = eprintln!(rt; "{what}: {error}");
+}
+
 // Prints text. Answers whether all of it was written; if not, that is said on standard error.
-fn print(text: &[u8]) -> bool {
-    if io::write_all(STDOUT_FILENO, text) {
-        return true;
+fn print(rt: &(impl Print + Eprint), text: &[u8]) -> bool {
+    match rt.write_all(text) {
+        Ok(()) => true,
+        Err(error) => {
+            say_failed(rt, "standard output", &error);
+            false
+        }
     }
-    os::fail(b"standard output");
-    false
 }
 
 // Prints a line. Answers whether all of it was written.
-pub(crate) fn print_line(line: Line) -> bool
+pub(crate) fn print_line(rt: &(impl Print + Eprint), line: Line) -> bool
     requires { line.len ≤ line_size }
 {
     let n = line.len;
     let bytes = line.bytes;
-    print(&bytes[..n])
+    print(rt, &bytes[..n])
 }
 
 // Prints the words of a page, a line each. Answers whether all of it was written.
-fn print_page(rows: &[u8], page: &[u8], written: usize) -> bool
+fn print_page(rt: &(impl Print + Eprint), rows: &[u8], page: &[u8], written: usize) -> bool
     requires { (written ≤ 1024) × (length page.now ≡ 16384) }
 {
     let mut text = [0u8; TEXT];
     let end = page_text(rows, page, written, &mut text);
-    print(&text[..end])
+    print(rt, &text[..end])
 }
 
 // Prints the words of the list, page after page, from the start or after a word. Answers how many there were, or that
 // a write failed. Words that are all of them are as many as the list has.
-fn print_words(journals: &[u8], rows: &[u8], ask: Ask) -> Printed
+fn print_words(rt: &(impl Print + Eprint), journals: &[u8], rows: &[u8], ask: Ask) -> Printed
     ensures { result.whole ≡ true → result.words ≡ length (list_of (count (journals_of journals.now)) ask.quorum ask.limit) }
 {
     let quorum = ask.quorum;
@@ -81,7 +88,7 @@ fn print_words(journals: &[u8], rows: &[u8], ask: Ask) -> Printed
                 whole: false,
             };
         }
-        if !print_page(rows, &page, written) {
+        if !print_page(rt, rows, &page, written) {
             return Printed {
                 words,
                 whole: false,
@@ -103,14 +110,14 @@ fn print_words(journals: &[u8], rows: &[u8], ask: Ask) -> Printed
 }
 
 // Prints the list: the first line, the words, and the last line once every word was written.
-pub(crate) fn print_list(journals: &[u8], rows: &[u8], ask: Ask) {
+pub(crate) fn print_list(rt: &(impl Print + Eprint), journals: &[u8], rows: &[u8], ask: Ask) {
     let known = reading::open_journals(journals);
     let live = checking::live_rows(journals, rows);
-    if !print_line(text::first_line(known.journals, live.rows)) {
+    if !print_line(rt, text::first_line(known.journals, live.rows)) {
         return;
     }
-    let printed = print_words(journals, rows, ask);
+    let printed = print_words(rt, journals, rows, ask);
     if printed.whole {
-        print_line(text::last_line(printed.words));
+        print_line(rt, text::last_line(printed.words));
     }
 }

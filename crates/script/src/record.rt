@@ -5,42 +5,46 @@ ghost use Rattle.std.specs.Prelude.{◌≡◌, ◌≤◌, length};
 
 use crate::print::{field, print_bytes, say, wide};
 use records::{ARCS, COUNT, LONGEST_WORD, WORD_RECORD};
+use std::io;
+use std::io::Write;
 
 // Pages of up to so many words are printed word by word.
 const FEW: usize = 8;
 
 // Prints an arc if there is one.
-fn print_arc(step: usize, low: u8, high: u8) {
+fn print_arc<W: Write>(out: &mut W, step: usize, low: u8, high: u8) -> io::Result<()> {
     let arc = (wide(high) << 8) | wide(low);
     if arc != 0 {
-        field(b" ", step as u64);
-        field(b":", arc);
+        field(out, b" ", step as u64)?;
+        field(out, b":", arc)?;
     }
+    Ok(())
 }
 
 // Prints the arcs of a row record.
-fn print_arcs(bytes: &[u8])
+fn print_arcs<W: Write>(out: &mut W, bytes: &[u8]) -> io::Result<()>
     requires { length bytes.now ≡ 64 }
 {
     let mut step = 0;
     while step < 16 {
         let at = ARCS + 2 * step;
-        print_arc(step, bytes[at], bytes[at + 1]);
+        print_arc(out, step, bytes[at], bytes[at + 1])?;
         step += 1;
     }
+    Ok(())
 }
 
 // Prints a whole row record.
-pub fn print_row(bytes: &[u8])
+pub fn print_row<W: Write>(out: &mut W, bytes: &[u8]) -> io::Result<()>
     requires { length bytes.now ≡ 64 }
 {
-    say(b", places");
-    print_bytes(&bytes[..ARCS]);
-    say(b", arcs");
-    print_arcs(bytes);
-    field(b", count ", wide(bytes[COUNT]));
-    say(b", then");
-    print_bytes(&bytes[COUNT + 1..]);
+    say(out, b", places")?;
+    print_bytes(out, &bytes[..ARCS])?;
+    say(out, b", arcs")?;
+    print_arcs(out, bytes)?;
+    field(out, b", count ", wide(bytes[COUNT]))?;
+    say(out, b", then")?;
+    print_bytes(out, &bytes[COUNT + 1..])
 }
 
 // How many bytes of a word record are its length and its steps; all of them if the length is too large.
@@ -54,35 +58,36 @@ fn used(length: u8) -> usize
 }
 
 // Prints a word's length and steps.
-fn print_word(word: &[u8])
+fn print_word<W: Write>(out: &mut W, word: &[u8]) -> io::Result<()>
     requires { length word.now ≡ 16 }
 {
     let n = used(word[0]);
-    say(b" |");
-    print_bytes(&word[..n]);
+    say(out, b" |")?;
+    print_bytes(out, &word[..n])
 }
 
 // Prints each word of some word records.
-fn print_words(words: &[u8]) {
+fn print_words<W: Write>(out: &mut W, words: &[u8]) -> io::Result<()> {
     let mut at = 0;
     while at < words.len() {
         if words.len() - at < WORD_RECORD {
-            return;
+            return Ok(());
         }
         let end = at + WORD_RECORD;
-        print_word(&words[at..end]);
+        print_word(out, &words[at..end])?;
         at = end;
     }
+    Ok(())
 }
 
 // Prints the words that were written, if they are few and fit the room.
-pub fn print_few(written: usize, room: &[u8]) {
+pub fn print_few<W: Write>(out: &mut W, written: usize, room: &[u8]) -> io::Result<()> {
     if written > FEW {
-        return;
+        return Ok(());
     }
     let end = WORD_RECORD * written;
     if room.len() < end {
-        return;
+        return Ok(());
     }
-    print_words(&room[..end]);
+    print_words(out, &room[..end])
 }

@@ -2,6 +2,8 @@
 
 use books::number::DONE;
 use script::print::{answer, field, wide};
+use std::io;
+use std::io::Write;
 
 // The number that a row of appends ended with, and how many steps were taken.
 #[derive(Clone, Copy)]
@@ -26,58 +28,67 @@ fn append_all(steps: &[u8], journals: &mut [u8], rows: &mut [u8]) -> Appended {
     }
 }
 
-pub(crate) fn clear(journals: &mut [u8], rows: &mut [u8]) {
-    answer(writing::clear(journals, rows));
+pub(crate) fn clear<W: Write>(out: &mut W, journals: &mut [u8], rows: &mut [u8]) -> io::Result<()> {
+    answer(out, writing::clear(journals, rows))
 }
 
-pub(crate) fn append(steps: &[u8], journals: &mut [u8], rows: &mut [u8]) {
+pub(crate) fn append<W: Write>(
+    out: &mut W,
+    steps: &[u8],
+    journals: &mut [u8],
+    rows: &mut [u8],
+) -> io::Result<()> {
     let appended = append_all(steps, journals, rows);
-    answer(appended.number);
-    field(b", taken ", appended.taken as u64);
+    answer(out, appended.number)?;
+    field(out, b", taken ", appended.taken as u64)
 }
 
 // Opens a journal; where steps are given, it is opened with these.
-pub(crate) fn open(steps: &[u8], journals: &mut [u8], rows: &mut [u8]) {
+pub(crate) fn open<W: Write>(
+    out: &mut W,
+    steps: &[u8],
+    journals: &mut [u8],
+    rows: &mut [u8],
+) -> io::Result<()> {
     let number = writing::open(journals, rows);
     if number != DONE {
-        answer(number);
-        return;
+        return answer(out, number);
     }
-    append(steps, journals, rows);
+    append(out, steps, journals, rows)
 }
 
-pub(crate) fn rebuild(journals: &[u8], rows: &mut [u8]) {
-    answer(writing::rebuild(journals, rows));
+pub(crate) fn rebuild<W: Write>(out: &mut W, journals: &[u8], rows: &mut [u8]) -> io::Result<()> {
+    answer(out, writing::rebuild(journals, rows))
 }
 
-pub(crate) fn table(word: &[u8], rows: &[u8]) {
+pub(crate) fn table<W: Write>(out: &mut W, word: &[u8], rows: &[u8]) -> io::Result<()> {
     let counted = reading::table_count(rows, word);
-    answer(counted.number);
-    field(b", count ", wide(counted.count));
+    answer(out, counted.number)?;
+    field(out, b", count ", wide(counted.count))
 }
 
-pub(crate) fn count(word: &[u8], journals: &[u8]) {
+pub(crate) fn count<W: Write>(out: &mut W, word: &[u8], journals: &[u8]) -> io::Result<()> {
     let counted = reading::journal_count(journals, word);
-    answer(counted.number);
-    field(b", count ", wide(counted.count));
+    answer(out, counted.number)?;
+    field(out, b", count ", wide(counted.count))
 }
 
-pub(crate) fn check(journals: &[u8], rows: &[u8]) {
+pub(crate) fn check<W: Write>(out: &mut W, journals: &[u8], rows: &[u8]) -> io::Result<()> {
     let checked = checking::check(journals, rows);
-    answer(checked.number);
-    field(b", book ", wide(checked.book));
-    field(b", record ", checked.at as u64);
-    field(b", byte ", checked.byte as u64);
+    answer(out, checked.number)?;
+    field(out, b", book ", wide(checked.book))?;
+    field(out, b", record ", checked.at as u64)?;
+    field(out, b", byte ", checked.byte as u64)
 }
 
-pub(crate) fn journals(journals: &[u8]) {
+pub(crate) fn journals<W: Write>(out: &mut W, journals: &[u8]) -> io::Result<()> {
     let opened = reading::open_journals(journals);
-    answer(opened.number);
-    field(b", ", opened.journals as u64);
+    answer(out, opened.number)?;
+    field(out, b", ", opened.journals as u64)
 }
 
-pub(crate) fn rows(journals: &[u8], rows: &[u8]) {
+pub(crate) fn rows<W: Write>(out: &mut W, journals: &[u8], rows: &[u8]) -> io::Result<()> {
     let live = checking::live_rows(journals, rows);
-    answer(live.number);
-    field(b", ", live.rows as u64);
+    answer(out, live.number)?;
+    field(out, b", ", live.rows as u64)
 }

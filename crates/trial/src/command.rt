@@ -1,6 +1,6 @@
 // One command: its numbers and bytes taken apart, and what it does.
 
-use crate::page::page;
+use crate::list_page::page;
 use crate::row::row;
 use crate::{calls, room};
 use script::name::{
@@ -8,36 +8,40 @@ use script::name::{
     ROWS, TABLE, WRITE, heads, takes,
 };
 use script::number::{MOST, to_bytes};
+use std::io;
+use std::io::Write;
 
 // Carries out a command on what is lent of the books. Answers whether it is one.
-fn call(
+fn call<W: Write>(
+    out: &mut W,
     code: u8,
     asked: &[usize; 3],
     bytes: &[u8],
     journals: &mut [u8],
     rows: &mut [u8],
     output: &mut [u8],
-) -> bool {
+) -> io::Result<bool> {
     match code {
-        CLEAR => calls::clear(journals, rows),
-        OPEN => calls::open(bytes, journals, rows),
-        APPEND => calls::append(bytes, journals, rows),
-        REBUILD => calls::rebuild(journals, rows),
-        TABLE => calls::table(bytes, rows),
-        COUNT => calls::count(bytes, journals),
-        CHECK => calls::check(journals, rows),
-        ROW => row(asked[0], rows),
-        JOURNALS => calls::journals(journals),
-        ROWS => calls::rows(journals, rows),
-        LIST => return page(asked, false, bytes, journals, rows, output),
-        AFTER => return page(asked, true, bytes, journals, rows, output),
-        _ => return false,
+        CLEAR => calls::clear(out, journals, rows)?,
+        OPEN => calls::open(out, bytes, journals, rows)?,
+        APPEND => calls::append(out, bytes, journals, rows)?,
+        REBUILD => calls::rebuild(out, journals, rows)?,
+        TABLE => calls::table(out, bytes, rows)?,
+        COUNT => calls::count(out, bytes, journals)?,
+        CHECK => calls::check(out, journals, rows)?,
+        ROW => row(out, asked[0], rows)?,
+        JOURNALS => calls::journals(out, journals)?,
+        ROWS => calls::rows(out, journals, rows)?,
+        LIST => return page(out, asked, false, bytes, journals, rows, output),
+        AFTER => return page(out, asked, true, bytes, journals, rows, output),
+        _ => return Ok(false),
     }
-    true
+    Ok(true)
 }
 
 // The same on as many bytes of each book's room as are lent; no where the room has fewer.
-fn lent_call(
+fn lent_call<W: Write>(
+    out: &mut W,
     code: u8,
     asked: &[usize; 3],
     bytes: &[u8],
@@ -45,16 +49,17 @@ fn lent_call(
     journals: &mut [u8],
     rows: &mut [u8],
     output: &mut [u8],
-) -> bool {
+) -> io::Result<bool> {
     let m = lent[0];
     let n = lent[1];
     if journals.len() < m {
-        return false;
+        return Ok(false);
     }
     if rows.len() < n {
-        return false;
+        return Ok(false);
     }
     call(
+        out,
         code,
         asked,
         bytes,
@@ -65,7 +70,8 @@ fn lent_call(
 }
 
 // Carries out a command. Answers whether it is one.
-fn carry_out(
+fn carry_out<W: Write>(
+    out: &mut W,
     code: u8,
     asked: &[usize; 3],
     bytes: &[u8],
@@ -73,18 +79,19 @@ fn carry_out(
     journals: &mut [u8],
     rows: &mut [u8],
     output: &mut [u8],
-) -> bool {
+) -> io::Result<bool> {
     match code {
-        WRITE => room::write(asked, bytes, journals, rows),
-        LEND => room::lend(asked, lent),
-        FILL => room::fill(bytes, output),
-        DIGEST => room::print_digests(journals, rows),
-        _ => lent_call(code, asked, bytes, lent, journals, rows, output),
+        WRITE => Ok(room::write(asked, bytes, journals, rows)),
+        LEND => Ok(room::lend(asked, lent)),
+        FILL => Ok(room::fill(bytes, output)),
+        DIGEST => room::print_digests(out, journals, rows),
+        _ => lent_call(out, code, asked, bytes, lent, journals, rows, output),
     }
 }
 
 // The same with so many bytes; no where they are more than there are.
-fn with_bytes(
+fn with_bytes<W: Write>(
+    out: &mut W,
     code: u8,
     asked: &[usize; 3],
     bytes: &[u8; MOST],
@@ -93,16 +100,17 @@ fn with_bytes(
     journals: &mut [u8],
     rows: &mut [u8],
     output: &mut [u8],
-) -> bool {
+) -> io::Result<bool> {
     if MOST < n {
-        return false;
+        return Ok(false);
     }
     let all = &bytes[..];
-    carry_out(code, asked, &all[..n], lent, journals, rows, output)
+    carry_out(out, code, asked, &all[..n], lent, journals, rows, output)
 }
 
 // Carries out the command of a line whose numbers were read: so many of them, the first few of any size, the others bytes.
-pub(crate) fn command(
+pub(crate) fn command<W: Write>(
+    out: &mut W,
     code: u8,
     read: usize,
     numbers: &[usize; MOST],
@@ -110,23 +118,23 @@ pub(crate) fn command(
     journals: &mut [u8],
     rows: &mut [u8],
     output: &mut [u8],
-) -> bool {
+) -> io::Result<bool> {
     let first = heads(code);
     if read < first {
-        return false;
+        return Ok(false);
     }
     if MOST < read {
-        return false;
+        return Ok(false);
     }
     let n = read - first;
     if !takes(code, n) {
-        return false;
+        return Ok(false);
     }
     let mut bytes = [0u8; MOST];
     let all = &numbers[..];
     if !to_bytes(&all[first..read], &mut bytes) {
-        return false;
+        return Ok(false);
     }
     let asked = [numbers[0], numbers[1], numbers[2]];
-    with_bytes(code, &asked, &bytes, n, lent, journals, rows, output)
+    with_bytes(out, code, &asked, &bytes, n, lent, journals, rows, output)
 }

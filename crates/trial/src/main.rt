@@ -5,51 +5,58 @@
 
 mod calls;
 mod command;
-mod page;
+mod list_page;
 mod room;
 mod row;
 
 use command::command;
-use libc::STDIN_FILENO;
 use records::{JOURNAL_BOOK, ROW_BOOK};
 use room::{JOURNAL_ROOM, OUTPUT_ROOM, ROW_ROOM};
 use script::number::MOST;
 use script::print::say;
 use script::text::find;
+use std::io;
+use std::io::{BufWriter, Read, Write};
 
 // The bytes of the longest script and one more.
 const LONGEST: usize = 262144;
 
 // Carries out one line. Answers whether it is one.
-fn run_line(
+fn run_line<W: Write>(
+    out: &mut W,
     line: &[u8],
     numbers: &mut [usize; MOST],
     lent: &mut [usize; 2],
     journals: &mut [u8],
     rows: &mut [u8],
     output: &mut [u8],
-) -> bool {
-    say(line);
+) -> io::Result<bool> {
+    say(out, line)?;
     if script::text::is_comment(line) {
-        say(b"\n");
-        return true;
+        say(out, b"\n")?;
+        return Ok(true);
     }
     let end = find(line, b' ', 0);
     let code = script::name::code(&line[..end]);
     let read = script::number::read(&line[end..], numbers);
-    if !command(code, read, numbers, lent, journals, rows, output) {
-        say(b" -> broken\n");
-        return false;
+    if !command(out, code, read, numbers, lent, journals, rows, output)? {
+        say(out, b" -> broken\n")?;
+        return Ok(false);
     }
-    say(b"\n");
-    true
+    say(out, b"\n")?;
+    Ok(true)
 }
 
 // Carries out the lines of a script that isn't too long, up to the first that is none.
-fn run(script: &[u8], journals: &mut [u8], rows: &mut [u8], output: &mut [u8]) {
+fn run<W: Write>(
+    out: &mut W,
+    script: &[u8],
+    journals: &mut [u8],
+    rows: &mut [u8],
+    output: &mut [u8],
+) -> io::Result<()> {
     if script.len() == LONGEST {
-        say(b"the script is too long\n");
-        return;
+        return say(out, b"the script is too long\n");
     }
     let mut numbers = [0usize; MOST];
     let mut lent = [JOURNAL_BOOK, ROW_BOOK];
@@ -57,28 +64,32 @@ fn run(script: &[u8], journals: &mut [u8], rows: &mut [u8], output: &mut [u8]) {
     while at < script.len() {
         let end = find(script, b'\n', at);
         if !run_line(
+            out,
             &script[at..end],
             &mut numbers,
             &mut lent,
             journals,
             rows,
             output,
-        ) {
-            return;
+        )? {
+            return Ok(());
         }
         if end == script.len() {
-            return;
+            return Ok(());
         }
         at = end + 1;
     }
+    Ok(())
 }
 
 // Runs the script on standard input.
-fn main() {
-    let mut script = [0u8; LONGEST];
+fn main(rt: HostRuntime) -> io::Result<()> {
+    let mut script = Vec::new(rt.alloc());
     let mut journals = [0u8; JOURNAL_ROOM];
     let mut rows = [0u8; ROW_ROOM];
     let mut output = [0u8; OUTPUT_ROOM];
-    let n = io::read_full(STDIN_FILENO, &mut script);
-    run(&script[..n], &mut journals, &mut rows, &mut output);
+    rt.stdin().take(LONGEST as u64).read_to_end(&mut script)?;
+    let mut out = BufWriter::new(rt.alloc(), rt.stdout())?;
+    run(&mut out, &script, &mut journals, &mut rows, &mut output)?;
+    out.flush()
 }

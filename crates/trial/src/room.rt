@@ -3,6 +3,8 @@
 use records::{JOURNAL_BOOK, JOURNAL_RECORD, ROW_BOOK, ROW_RECORD, WORD_RECORD};
 use script::digest::digest;
 use script::print::field;
+use std::io;
+use std::io::Write;
 
 // The room of each book: one record more than the book, so that a book can be lent too long, and a write behind it shows.
 pub(crate) const JOURNAL_ROOM: usize = JOURNAL_BOOK + JOURNAL_RECORD;
@@ -73,8 +75,12 @@ pub(crate) fn fill(bytes: &[u8], output: &mut [u8]) -> bool {
 }
 
 // Prints the digest of each book's room.
-pub(crate) fn print_digests(journals: &[u8], rows: &[u8]) -> bool {
-    field(b" -> ", digest(journals));
-    field(b" ", digest(rows));
-    true
+pub(crate) fn print_digests<W: Write>(
+    out: &mut W,
+    journals: &[u8],
+    rows: &[u8],
+) -> io::Result<bool> {
+    field(out, b" -> ", digest(journals))?;
+    field(out, b" ", digest(rows))?;
+    Ok(true)
 }

@@ -1,5 +1,5 @@
 -- `i` is at most the number of the bytes, of which fewer are left with each turn.
-use Rattle.std.proofs.Common.{◌-◌, ◌≤◌, length, rules}
+use Rattle.std.proofs.Common.{◌-◌, ◌≤◌, length}
 use Rattle.script.proofs.digest.digest.Given as goal
 
 abbrev pub invariant-loop-i : goal.invariant-loop-i

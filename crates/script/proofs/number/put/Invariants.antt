@@ -1,5 +1,5 @@
 -- Every place is below the end, which is within the array.
-use Rattle.std.proofs.Common.{◌-◌, ◌≤◌, rules}
+use Rattle.std.proofs.Common.{◌-◌, ◌≤◌}
 use Rattle.script.proofs.number.put.Given as goal
 
 abbrev pub invariant-loop-i : goal.invariant-loop-i

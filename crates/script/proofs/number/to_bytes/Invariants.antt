@@ -1,5 +1,5 @@
 -- A number that is taken is below 256, by the test, so that it fits a byte.
-use Rattle.std.proofs.Common.{◌-◌, ◌≤◌, length, rules}
+use Rattle.std.proofs.Common.{◌-◌, ◌≤◌, length}
 use Rattle.script.proofs.number.to_bytes.Given as goal
 
 abbrev pub invariant-loop-i : goal.invariant-loop-i

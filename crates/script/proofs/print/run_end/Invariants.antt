@@ -1,5 +1,5 @@
 -- The end is behind the place asked for and within the bytes, of which fewer are left with each turn.
-use Rattle.std.proofs.Common.{◌-◌, ◌<◌, ◌≤◌, length, rules}
+use Rattle.std.proofs.Common.{◌-◌, ◌<◌, ◌≤◌, length}
 use Rattle.script.proofs.print.run_end.Given as goal
 
 abbrev pub invariant-loop-end : goal.invariant-loop-end

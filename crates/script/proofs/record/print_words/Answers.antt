@@ -1,5 +1,5 @@
-use Rattle.std.proofs.Common.{◌-◌, ◌≤◌, length, arith, length-drop, length-take, rules}
+use Rattle.std.proofs.Common.{arith, length-drop, length-take}
 use Rattle.script.proofs.record.print_words.Goals as goal
 
 pub print_word-requires : goal.print_word-requires
-print_word-requires c = simp (length-take, length-drop) (omega arith)
+print_word-requires g c = simp (length-take, length-drop) (omega arith)

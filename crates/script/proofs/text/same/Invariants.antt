@@ -1,5 +1,5 @@
 -- The two are as long as each other, by the test, so that `i` is an index of both.
-use Rattle.std.proofs.Common.{◌-◌, ◌≤◌, length, rules}
+use Rattle.std.proofs.Common.{◌-◌, ◌≤◌, length}
 use Rattle.script.proofs.text.same.Given as goal
 
 abbrev pub invariant-loop-i : goal.invariant-loop-i

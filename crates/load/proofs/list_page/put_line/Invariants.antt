@@ -1,4 +1,4 @@
--- `page::put_line` meets its contract. The invariant: the first i bytes of the line are pasted over those of the text from `at` on.
+-- `list_page::put_line` meets its contract. The invariant: the first i bytes of the line are pasted over those of the text from `at` on.
 use Prim.Native.Nat.{ℕ, ◌+◌, ◌-◌, ◌≤◌}
 use native.Mathlib.Numerals.{add-one}
 use native.Mathlib.Omega.{arith}
@@ -7,7 +7,7 @@ use mathlib.Core.List.{List}
 use lib.ListN.{length, set, get_or, length-set}
 use lib.Seq.{paste, paste-zero, paste-suc}
 use borrow.Author.Rules.{rules}
-use Rattle.load.proofs.page.put_line.Given as goal
+use Rattle.load.proofs.list_page.put_line.Given as goal
 
 abbrev pub invariant-loop-i : goal.invariant-loop-i
 invariant-loop-i l = (l.i ≤ l.n) × (length l.text ≡ length l.initial.text) × (l.text ≡ paste l.initial.text l.at l.bytes l.i)

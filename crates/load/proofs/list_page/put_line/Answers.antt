@@ -6,7 +6,7 @@ use mathlib.Core.List.{List}
 use lib.ListN.{length, set, get_or, length-set}
 use lib.Seq.{paste, paste-zero, paste-suc}
 use borrow.Author.Rules.{rules}
-use Rattle.load.proofs.page.put_line.Goals as goal
+use Rattle.load.proofs.list_page.put_line.Goals as goal
 
 pub loop-i-init : goal.loop-i-init
 loop-i-init c = let a = c.args in (omega arith, refl, paste-zero a.text.now a.at a.line.bytes-1)

@@ -1,4 +1,4 @@
--- `page::record_line` meets its contract: the part of the record that is counted and printed is its word, since at most 15 steps stand behind the length.
+-- `list_page::record_line` meets its contract: the part of the record that is counted and printed is its word, since at most 15 steps stand behind the length.
 use Prim.Native.Nat.{ℕ, ◌+◌, ◌-◌}
 use mathlib.Core.Path.{ap, ◌∙◌}
 use mathlib.Core.Bool.{cond}
@@ -11,7 +11,7 @@ use Rattle.text.specs.Lines.{line_of}
 use Rattle.load.proofs.PageLines.{record_line}
 use borrow.Author.Rules.{rules}
 use native.Mathlib.Omega.{arith}
-use Rattle.load.proofs.page.record_line.Goals as goal
+use Rattle.load.proofs.list_page.record_line.Goals as goal
 
 -- FIELDS value fits
 pub returns : goal.returns

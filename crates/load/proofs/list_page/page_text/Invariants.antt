@@ -1,4 +1,4 @@
--- `page::page_text` meets its contract. The invariant: the text begins with the lines of the first i words and is as it was behind them; each has room
+-- `list_page::page_text` meets its contract. The invariant: the text begins with the lines of the first i words and is as it was behind them; each has room
 -- for 96 bytes. The measure is the number of words left.
 use Prim.Native.Nat.{ℕ, ◌*◌, ◌≤◌, ◌-◌}
 use mathlib.Core.Path.{◌≡◌, refl, ap, ◌∙◌}
@@ -8,7 +8,7 @@ use Rattle.load.specs.Page.{page_lines}
 use Rattle.load.proofs.PageLines.{line_put}
 use borrow.Author.Rules.{rules}
 use native.Mathlib.Omega.{arith}
-use Rattle.load.proofs.page.page_text.Given as goal
+use Rattle.load.proofs.list_page.page_text.Given as goal
 
 abbrev pub invariant-loop-i : goal.invariant-loop-i
 invariant-loop-i l = (l.i ≤ l.written) × (l.end ≤ 96 * l.i) × (length l.text ≡ length l.initial.text) × (l.end ≡ length (page_lines l.rows l.i l.page)) × (l.text ≡ page_lines l.rows l.i l.page ++ drop l.end l.initial.text)

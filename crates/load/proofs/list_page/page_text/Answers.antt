@@ -6,7 +6,7 @@ use Rattle.load.specs.Page.{page_lines}
 use Rattle.load.proofs.PageLines.{line_put}
 use borrow.Author.Rules.{rules}
 use native.Mathlib.Omega.{arith}
-use Rattle.load.proofs.page.page_text.Goals as goal
+use Rattle.load.proofs.list_page.page_text.Goals as goal
 
 pub loop-i-init : goal.loop-i-init
 unfolding page_lines

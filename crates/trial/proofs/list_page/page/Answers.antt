@@ -2,7 +2,7 @@
 use lib.ListN.{length-take}
 use native.Mathlib.Omega.{arith}
 use borrow.Author.Rules.{rules}
-use Rattle.trial.proofs.page.page.Goals as goal
+use Rattle.trial.proofs.list_page.page.Goals as goal
 
 pub slice_bounds-list-end-2 : goal.slice_bounds-list-end-2
 slice_bounds-list-end-2 c = simp length-take (omega arith)
