@@ -1,5 +1,6 @@
 -- `reading::table_count` meets its contract: each return is one case of the table count, the last three by where the walk
 -- ends. A walk that ends in a row ends in one of the book, so that its count can be read. Assumes nothing.
+use native.Mathlib.Omega.{arith}
 use borrow.Author.Rules.{rules}
 use mathlib.Core.Path.{sym, ap, ◌∙◌}
 use Rattle.books.specs.Numbers.{done}
@@ -16,7 +17,7 @@ returns-then-not-all_below c =
     c.refused-then-not-all_below.ensures ∙ sym (count_step _ _ c.if-rows-ne-ROW_BOOK.false (sym c.all_below.ensures ∙ c.if-not-all_below.true))
 
 pub count_at-requires : goal.count_at-requires
-count_at-requires c = (search rules, walk_row _ _ _ (sym c.walk_to.ensures ∙ c.in-Row.is))
+count_at-requires c = (search rules, omega (arith, walk_row _ _ _ (sym c.walk_to.ensures ∙ c.in-Row.is)))
 
 pub returns-in-Row : goal.returns-in-Row
 returns-in-Row c =
