@@ -2,12 +2,9 @@
 -- on from the books now, with `taken` of them taken. What came of the entry at `at` says how that goes on (`FeedCases.antt`). The
 -- measure is what is left of the entries: the position behind an entry is further on. Assumes nothing.
 use Prim.Native.Nat.{◌≤◌, ◌-◌}
-use mathlib.Core.Path.{◌≡◌, sym, ◌∙◌}
+use mathlib.Core.Path.{◌≡◌}
 use lib.ListN.{length, drop}
 use Rattle.feed.specs.Entry.{feed_from, feed_call}
-use Rattle.feed.proofs.FeedCases.{taken_leads}
-use borrow.Author.Rules.{rules}
-use native.Mathlib.Omega.{arith}
 use Rattle.feed.proofs.feed.Given as goal
 
 abbrev pub invariant-loop-next : goal.invariant-loop-next

@@ -8,7 +8,6 @@ use borrow.Author.Tests.{ne_eqb, eq-eqb}
 use Rattle.books.specs.Clear.{after}
 use Rattle.feed.specs.Entry.{open_append}
 use Rattle.feed.proofs.EntryCases.{whole_refused, whole_done, whole_size}
-use borrow.Author.Rules.{rules}
 use Rattle.feed.proofs.entry.open_append_whole.Goals as goal
 
 pub returns-then-journals-ne-JOURNAL_BOOK : goal.returns-then-journals-ne-JOURNAL_BOOK
@@ -19,24 +18,13 @@ returns-then-rows-ne-ROW_BOOK c = whole_size _ _ _ (simp (eq-eqb _ 4096 c.if-jou
 
 pub returns-then-both-ne-DONE : goal.returns-then-both-ne-DONE
 returns-then-both-ne-DONE c =
-    let done = c in
-    let copied-rows = done in
-    let copied-journals = copied-rows in
-    let sized = copied-journals in
-    let a = sized.args in
-    let copies = ap₂ (λ (jb rb : List ℕ). open_append jb rb a.step) copied-journals.copy_all.ensures copied-rows.copy_all-2.ensures in
-    whole_refused a.journals-1.now a.rows-1.now a.step _ _ _ (done.open_append-both.ensures ∙ copies) c.if-both-ne-DONE.true
+    let a = c.args in
+    let copies = ap₂ (λ (jb rb : List ℕ). open_append jb rb a.step) c.copy_all.ensures c.copy_all-2.ensures in
+    whole_refused a.journals.now a.rows.now a.step _ _ _ (c.open_append-both.ensures ∙ copies) c.if-both-ne-DONE.true
 
 pub returns : goal.returns
 returns c =
-    let rows_back = c in
-    let journals_back = rows_back in
-    let tested = journals_back in
-    let done = tested in
-    let copied-rows = done in
-    let copied-journals = copied-rows in
-    let sized = copied-journals in
-    let a = sized.args in
-    let copies = ap₂ (λ (jb rb : List ℕ). open_append jb rb a.step) copied-journals.copy_all.ensures copied-rows.copy_all-2.ensures in
-    ap₂ (after 0) journals_back.copy_all-3.ensures rows_back.copy_all-4.ensures
-    ∙ whole_done a.journals-1.now a.rows-1.now a.step _ _ _ (done.open_append-both.ensures ∙ copies) tested.if-both-ne-DONE.false
+    let a = c.args in
+    let copies = ap₂ (λ (jb rb : List ℕ). open_append jb rb a.step) c.copy_all.ensures c.copy_all-2.ensures in
+    ap₂ (after 0) c.copy_all-3.ensures c.copy_all-4.ensures
+    ∙ whole_done a.journals.now a.rows.now a.step _ _ _ (c.open_append-both.ensures ∙ copies) c.if-both-ne-DONE.false
