@@ -15,6 +15,18 @@ use Rattle.keys.proofs.KeyCompared.{stays, goes_in}
 use Rattle.keys.proofs.insert.Goals as goal
 use Rattle.keys.proofs.insert.Goals.{then-p-n+else-not-comes_before, else-p-n}
 
+pub returns : goal.returns
+returns c =
+    let a = c.args in
+    let r = c.rank-p in
+    let first : r.result < a.n → before a.key (get_or (keys_in a.n a.t.now) r.result []) ≡ true =
+    elim c.if-p-n.branch [
+      | then-p-n+else-not-comes_before w ↦ λ h. ap (before a.key) (sym (w.key_at-found.ensures _ h)) ∙ sym w.comes_before.ensures ∙ w.if-not-comes_before.false
+      | else-p-n w ↦ λ h. absurd (omega arith)
+    ] in
+    let e = goes_in a.n r.result a.t.now c.open_at.new.t a.key r.ensures first c.open_at.ensures in
+    record { after = e.0; many = e.1 }
+
 pub returns-then-not-comes_before : goal.returns-then-not-comes_before
 returns-then-not-comes_before c =
     let a = c.args in
@@ -28,15 +40,3 @@ open_at-requires c =
     let a = c.args in
     let most = rank_most a.key (keys_in a.n a.t.now) in
     (search rules, search rules, omega (arith, length_keys a.n a.t.now, c.rank-p.ensures))
-
-pub returns : goal.returns
-returns c =
-    let a = c.args in
-    let r = c.rank-p in
-    let first : r.result < a.n → before a.key (get_or (keys_in a.n a.t.now) r.result []) ≡ true =
-    elim c.if-p-n.branch [
-      | then-p-n+else-not-comes_before w ↦ λ h. ap (before a.key) (sym (w.key_at-found.ensures _ h)) ∙ sym w.comes_before.ensures ∙ w.if-not-comes_before.false
-      | else-p-n w ↦ λ h. absurd (omega arith)
-    ] in
-    let e = goes_in a.n r.result a.t.now c.open_at.new.t a.key r.ensures first c.open_at.ensures in
-    record { after = e.0; many = e.1 }

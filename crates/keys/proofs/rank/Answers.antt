@@ -15,10 +15,9 @@ loop-low-init c =
 pub loop-low-preserved-then-comes_before : goal.loop-low-preserved-then-comes_before
 loop-low-preserved-then-comes_before c =
     let l = c.loop-low in
-    let s = c in
-    let a = s.args in
+    let a = c.args in
     let middle = l.low + (l.high - l.low) / 2 in
-    let past = rank_past a.n middle a.t.now a.key (omega arith) (c.key_at-found.ensures _ (omega arith)) s.requires.2
+    let past = rank_past a.n middle a.t.now a.key (omega arith) (c.key_at-found.ensures _ (omega arith)) c.requires.2
     (sym c.comes_before.ensures ∙ c.if-comes_before.true) in
     (omega arith, omega arith, omega arith)
 

@@ -13,10 +13,9 @@ insert-n-requires c = (search rules, omega arith, rw (no_keys c.args.t.now) tt)
 
 pub loop-i-init : goal.loop-i-init
 loop-i-init c =
-    let s = c in
     let put = c.insert-n in
-    let first = put.ensures.after ∙ first_key _ s.args.t.now in (
-      put.auto.t ∙ s.requires.2,
+    let first = put.ensures.after ∙ first_key _ c.args.t.now in (
+      put.auto.t ∙ c.requires.2,
       omega (arith, one_key _ _ first),
       one_ascending _ _ first,
       λ js are many tabled. sweep_begins _ _ first js are (λ z. c.if-k-eq0.false (sym many ∙ z)),

@@ -22,14 +22,14 @@ ascending nexts k s m n key t u h after = subst (λ (x : List (List ℕ)). Ascen
 
 pub loop-s-init : goal.loop-s-init
 loop-s-init c =
-    let s = c in
-    let a = s.args in (
+    let a = c.args in
+    let p = c.requires in (
       omega arith,
       refl,
-      s.requires.4,
-      s.requires.5,
+      p.4,
+      p.5,
       λ js are many tabled.
-          row_begins js are a.i 0 a.n a.t.now (s.requires.6 js are many tabled) s.requires.3 (c.key_at-key.ensures _ s.requires.3),
+          row_begins js are a.i 0 a.n a.t.now (p.6 js are many tabled) p.3 (c.key_at-key.ensures _ p.3),
     )
 
 pub add_step-m-requires : goal.add_step-m-requires

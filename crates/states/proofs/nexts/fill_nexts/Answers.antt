@@ -17,14 +17,12 @@ next_entry-requires c = omega arith
 
 pub loop-x-preserved : goal.loop-x-preserved
 loop-x-preserved c =
-    let head = c in
-    let l = head.loop-x in
-    let s = head in
-    let steps = s.args.steps.now in
+    let l = c.loop-x in
+    let steps = c.args.steps.now in
     let x : ℕ = l.x - 1 in (
       omega arith,
       simp length-set l.invariant.1,
-      right_set steps s.requires.0 x l.entries (omega arith) (λ y from to. l.invariant.2 y (omega arith) to) c.next_entry.result (omega arith)
+      right_set steps c.requires.0 x l.entries (omega arith) (λ y from to. l.invariant.2 y (omega arith) to) c.next_entry.result (omega arith)
           (c.next_entry.ensures ∙ ap (next_entry steps x) c.further_on-further.ensures),
     )
 
