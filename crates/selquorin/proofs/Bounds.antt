@@ -1,9 +1,9 @@
 -- How large the parts of the check's answer can be, how many open journals and live rows there are, and how many words the list can
 -- write, so that they fit into one number. Assumes nothing.
-use Prim.Native.Nat.{ℕ, ◌*◌, ◌+◌, ◌/◌, ◌%◌, ◌≤◌, ◌<◌}
+use Prim.Native.Nat.{ℕ, ◌/◌, ◌%◌, ◌≤◌, ◌<◌}
 use native.Mathlib.Omega.{arith}
-use mathlib.Core.Path.{◌≡◌, subst, sym, ap, ◌∙◌}
-use mathlib.Core.Bool.{Bool, true, false, not, ◌||◌}
+use mathlib.Core.Path.{◌≡◌, subst, sym, ap}
+use mathlib.Core.Bool.{Bool, not, ◌||◌}
 use mathlib.Core.List.{List}
 use lib.ListN.{length, length-take}
 use lib.Dec.{eqb, ltb}

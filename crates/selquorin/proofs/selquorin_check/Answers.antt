@@ -1,6 +1,5 @@
 -- `selquorin::selquorin_check` meets its contract: what it packs is what `checking::check` answers, whose record and byte are small. Assumes nothing.
 use mathlib.Core.Path.{ap, ◌∙◌}
-use borrow.Author.Rules.{rules}
 use Rattle.packing.specs.Packed.{packed_check}
 use Rattle.selquorin.proofs.Bounds.{small}
 use Rattle.selquorin.proofs.selquorin_check.Goals as goal

@@ -1,6 +1,5 @@
 -- `selquorin::selquorin_journal_count` meets its contract: what is packed is what `reading::journal_count` answers. Assumes nothing.
 use mathlib.Core.Path.{ap, ◌∙◌}
-use borrow.Author.Rules.{rules}
 use Rattle.packing.specs.Packed.{packed_count}
 use Rattle.selquorin.proofs.selquorin_journal_count.Goals as goal
 

@@ -1,6 +1,5 @@
 -- `selquorin::selquorin_journals` meets its contract: what it packs is what `reading::open_journals` answers, which is small. Assumes nothing.
 use mathlib.Core.Path.{ap, ◌∙◌}
-use borrow.Author.Rules.{rules}
 use Rattle.packing.specs.Packed.{packed_journals}
 use Rattle.selquorin.proofs.Bounds.{few_journals}
 use Rattle.selquorin.proofs.selquorin_journals.Goals as goal

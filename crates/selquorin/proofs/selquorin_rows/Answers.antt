@@ -1,6 +1,5 @@
 -- `selquorin::selquorin_rows` meets its contract: what it packs is what `checking::live_rows` answers, which is small. Assumes nothing.
 use mathlib.Core.Path.{ap, ◌∙◌}
-use borrow.Author.Rules.{rules}
 use Rattle.packing.specs.Packed.{packed_rows}
 use Rattle.selquorin.proofs.Bounds.{few_rows}
 use Rattle.selquorin.proofs.selquorin_rows.Goals as goal
