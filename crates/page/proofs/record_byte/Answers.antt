@@ -12,17 +12,17 @@ use Rattle.page.proofs.record_byte.Goals as goal
 pub returns-then-i-eq0 : goal.returns-then-i-eq0
 returns-then-i-eq0 c =
     let w = c.args.w in
-    let l : length w.steps-1 ≡ 15 = search rules in
-    sym (ap (λ (i : ℕ). get_or (word_record (steps_in w)) i 0) c.if-i-eq0.true ∙ record_length_byte w.len w.steps-1 l (search rules))
+    let l : length w.steps ≡ 15 = search rules in
+    sym (ap (λ (i : ℕ). get_or (word_record (steps_in w)) i 0) c.if-i-eq0.true ∙ record_length_byte w.len w.steps l (search rules))
 
 pub returns-then-n-i : goal.returns-then-n-i
 returns-then-n-i c =
     let w = c.args.w in
-    let l : length w.steps-1 ≡ 15 = search rules in
-    sym (record_zero_byte w.len w.steps-1 l (search rules) c.args.i c.if-n-i.true)
+    let l : length w.steps ≡ 15 = search rules in
+    sym (record_zero_byte w.len w.steps l (search rules) c.args.i c.if-n-i.true)
 
 pub returns : goal.returns
 returns c =
     let w = c.args.w in
-    let l : length w.steps-1 ≡ 15 = search rules in
-    sym (record_step_byte w.len w.steps-1 l (search rules) c.args.i (omega arith) c.if-n-i.false)
+    let l : length w.steps ≡ 15 = search rules in
+    sym (record_step_byte w.len w.steps l (search rules) c.args.i (omega arith) c.if-n-i.false)

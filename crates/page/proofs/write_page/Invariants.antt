@@ -1,19 +1,12 @@
 -- `page::write_page` meets its contract. What is to be written is an end of the list. The invariant: i of its words stand in the output, and the
 -- word at hand is the next one, if there is one (`PageAt`). The measure is what is left of the room. Assumes nothing.
-use Prim.Native.Nat.{ℕ, ◌*◌, ◌/◌, ◌≤◌, ◌-◌}
-use mathlib.Core.Path.{◌≡◌, refl}
-use mathlib.Core.List.{List}
-use native.Mathlib.Omega.{arith}
-use lib.ListN.{length, length-take, length-drop}
-use borrow.Author.Rules.{rules}
-use borrow.Author.Tests.{not-true, not-false}
+use Prim.Native.Nat.{◌≤◌, ◌-◌}
+use mathlib.Core.Path.{◌≡◌}
+use lib.ListN.{length}
 use Rattle.words.specs.Listing.{list_of}
-use Rattle.records.specs.WordRecord.{word_record}
-use Rattle.words.proofs.Dictionary.{list_ascending}
-use Rattle.next_word.specs.Moving.{steps_in, moved}
+use Rattle.next_word.specs.Moving.{moved}
 use Rattle.next_word.specs.Next.{from_there, table_of}
-use Rattle.page.proofs.Ends.{there_end}
-use Rattle.page.proofs.Paging.{PageAt, page_start, page_length, page_turn, page_stop, page_full, part_back}
+use Rattle.page.proofs.Paging.{PageAt}
 use Rattle.page.proofs.write_page.Given as goal
 
 abbrev pub invariant-loop-i : goal.invariant-loop-i

@@ -1,19 +1,11 @@
 -- `next_word::search::first_from` meets its contract. The invariant: the list from w on is the list from where the search stands on, at v or nowhere, and v
 -- fits. A word that reaches the quorum is the first from itself on; one below it is skipped with its extensions.
 -- The measure is by how much the steps of v can still be raised, and one more; nowhere it is 0. Assumes nothing.
-use Prim.Native.Nat.{ℕ, suc, ◌<◌}
-use native.Mathlib.Omega.{arith}
-use mathlib.Core.Path.{◌≡◌, refl, sym, ap, ◌∙◌}
-use mathlib.Core.Bool.{true, false}
-use mathlib.Core.List.{List, [], ◌∷◌, Memᴰ}
-use lib.ListN.{take, length-take}
-use lib.Dec.{leb}
-use borrow.Author.Rules.{rules}
-use borrow.Author.Tests.{leb-true, leb-false}
+use mathlib.Core.Path.{◌≡◌}
 use Rattle.words.specs.Listing.{list_of}
 use Rattle.next_word.specs.Moving.{steps_in, moved, Fit}
-use Rattle.next_word.specs.Next.{climbed, from_on, from_there, table_of}
-use Rattle.next_word.proofs.Climb.{slack, climbed_less, climb_skips, here}
+use Rattle.next_word.specs.Next.{from_on, from_there, table_of}
+use Rattle.next_word.proofs.Climb.{to_go}
 use Rattle.next_word.proofs.search.first_from.Given as goal
 
 abbrev pub invariant-loop-found : goal.invariant-loop-found

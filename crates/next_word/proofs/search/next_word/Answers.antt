@@ -17,9 +17,8 @@ use Rattle.next_word.proofs.search.next_word.Goals as goal
 
 pub first_from-requires : goal.first_from-requires
 first_from-requires c =
-    let s = c in
-    let p = s.requires in
-    (p.0, record { short = search rules; codes = rw c.extend.ensures.1 (snoc_steps (steps_in s.args.w) 0 p.1.codes (omega arith)) }, p.2)
+    let p = c.requires in
+    (p.0, record { short = search rules; codes = rw c.extend.ensures.1 (snoc_steps (steps_in c.args.w) 0 p.1.codes (omega arith)) }, p.2)
 
 pub returns-then-w-limit : goal.returns-then-w-limit
 returns-then-w-limit c =
@@ -28,25 +27,22 @@ returns-then-w-limit c =
     let r = c.extend in
     let e : from_on (steps_in r.result) words ≡ past (steps_in a.w) words =
     ap (λ (v : List ℕ). from_on v words) r.ensures.1 ∙ sym (extend_after (steps_in a.w) words) in
-    (c.first_from.ensures.to ∙ ap (take 1) e, c.first_from.ensures.fit)
+    record { to = c.first_from.ensures.to ∙ ap (take 1) e; fit = c.first_from.ensures.fit }
 
 pub returns-then-m : goal.returns-then-m
 returns-then-m c =
-    let s = c in
-    let a = s.args in
+    let a = c.args in
     let m = c.climb-m in
     let f : m.result.found ≡ true = c.if-m.true in
     let size : length a.w.steps ≡ 15 = search rules in
-    let e = climbed_past (table_of a.rows.now) s.requires.2 a.quorum a.limit a.w m.result (omega arith) (omega arith) m.ensures.0 in
-    (c.first_from-then-m.ensures.to ∙ ap (take 1) (sym (rw f at e)), c.first_from-then-m.ensures.fit)
+    let e = climbed_past (table_of a.rows.now) c.requires.2 a.quorum a.limit a.w m.result (omega arith) (omega arith) m.ensures.to in
+    record { to = c.first_from-then-m.ensures.to ∙ ap (take 1) (sym (rw f at e)); fit = c.first_from-then-m.ensures.fit }
 
--- FIELDS to fit
 pub returns : goal.returns
 returns c =
-    let s = c in
-    let a = s.args in
+    let a = c.args in
     let m = c.climb-m in
     let f : m.result.found ≡ false = c.if-m.false in
     let size : length a.w.steps ≡ 15 = search rules in
-    let e = climbed_past (table_of a.rows.now) s.requires.2 a.quorum a.limit a.w m.result (omega arith) (omega arith) m.ensures.0 in
-    (rw f (ap (take 1) (sym (rw f at e))), search rules)
+    let e = climbed_past (table_of a.rows.now) c.requires.2 a.quorum a.limit a.w m.result (omega arith) (omega arith) m.ensures.to in
+    record { to = rw f (ap (take 1) (sym (rw f at e))); fit = search rules }

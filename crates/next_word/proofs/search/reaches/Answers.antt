@@ -12,14 +12,14 @@ use Rattle.next_word.proofs.search.reaches.Goals as goal
 pub slice_bounds-steps-end : goal.slice_bounds-steps-end
 slice_bounds-steps-end c =
     let w = c.args.w in
-    let size : length w.steps-1 ≡ 15 = search rules in
+    let size : length w.steps ≡ 15 = search rules in
     omega arith
 
 pub slice_bounds-table_count-end : goal.slice_bounds-table_count-end
 slice_bounds-table_count-end c =
     let w = c.args.w in
-    let size : length w.steps-1 ≡ 15 = search rules in
-    sym (length-take-le w.len w.steps-1 (omega arith))
+    let size : length w.steps ≡ 15 = search rules in
+    sym (length-take-le w.len w.steps (omega arith))
 
 pub returns : goal.returns
 unfolding table_of

@@ -4,7 +4,7 @@ use mathlib.Core.Path.{◌≡◌, refl, sym, ap, ◌∙◌}
 use mathlib.Core.List.{List, [], ◌∷◌}
 use lib.ListN.{length, take, get_or}
 use borrow.Author.Rules.{rules}
-use Rattle.next_word.specs.Moving.{steps_in, Fit}
+use Rattle.next_word.specs.Moving.{steps_in}
 use Rattle.next_word.specs.Next.{climbed}
 use Rattle.next_word.proofs.WordMoves.{raised, shortened, front_word, raised_word}
 use Rattle.next_word.proofs.word.climb.Goals as goal
@@ -16,28 +16,28 @@ pub returns-then-steps-n-lt-HIGHEST_STEP : goal.returns-then-steps-n-lt-HIGHEST_
 returns-then-steps-n-lt-HIGHEST_STEP c =
     let l = c.loop-v in
     let v = l.v in
-    let h : get_or v.steps-1 (v.len - 1) 0 < 15 = c.if-steps-n-lt-HIGHEST_STEP.true in
-    let e = c.raise.ensures.1 in (
-      ap (λ (u : List ℕ). u ∷ []) e ∙ sym (raised v (omega arith) (omega arith) h) ∙ sym l.invariant.1,
-      record { short = omega arith; codes = rw e (raised_word v (omega arith) (omega arith) l.invariant.2.codes h) },
-    )
+    let h : get_or v.steps (v.len - 1) 0 < 15 = c.if-steps-n-lt-HIGHEST_STEP.true in
+    let e = c.raise.ensures.1 in
+    record {
+      to = ap (λ (u : List ℕ). u ∷ []) e ∙ sym (raised v (omega arith) (omega arith) h) ∙ sym l.invariant.1;
+      fit = record { short = omega arith; codes = rw e (raised_word v (omega arith) (omega arith) l.invariant.2.codes h) };
+    }
 
 pub loop-v-preserved : goal.loop-v-preserved
 loop-v-preserved c =
     let l = c.loop-v in
     let v = l.v in
     let s = c.shorten-v in
-    let e : steps_in s.result ≡ take (v.len - 1) v.steps-1 = rw (s.ensures.0, s.ensures.1) in (
+    let e : steps_in s.result ≡ take (v.len - 1) v.steps = rw (s.ensures.0, s.ensures.1) in (
       ap length s.ensures.1 ∙ l.invariant.0,
       l.invariant.1 ∙ shortened v (omega arith) (omega arith) c.if-steps-n-lt-HIGHEST_STEP.false ∙ ap climbed (sym e),
       record { short = omega arith; codes = rw e (front_word v (omega arith) (omega arith) l.invariant.2.codes) },
     )
 
--- FIELDS to fit
 pub returns : goal.returns
 unfolding climbed
 returns c =
     let l = c.loop-v in
     let z : l.v.len ≡ 0 = omega arith in
     let e : steps_in l.v ≡ [] = rw z in
-    (sym (l.invariant.1 ∙ ap climbed e), l.invariant.2)
+    record { to = sym (l.invariant.1 ∙ ap climbed e); fit = l.invariant.2 }

@@ -1,15 +1,10 @@
 -- `next_word::word::climb` meets its contract. The invariant: v has an array of 15 steps, w climbs to where v climbs, and v is a word of at most as many
 -- steps. A last step that can be raised ends the search, another is dropped, and the empty word climbs nowhere.
 -- The measure is the number of v's steps. Assumes nothing.
-use Prim.Native.Nat.{ℕ, ◌-◌, ◌<◌}
-use native.Mathlib.Omega.{arith}
-use mathlib.Core.Path.{◌≡◌, refl, sym, ap, ◌∙◌}
-use mathlib.Core.List.{List, [], ◌∷◌}
-use lib.ListN.{length, take, get_or}
-use borrow.Author.Rules.{rules}
+use mathlib.Core.Path.{◌≡◌}
+use lib.ListN.{length}
 use Rattle.next_word.specs.Moving.{steps_in, Fit}
 use Rattle.next_word.specs.Next.{climbed}
-use Rattle.next_word.proofs.WordMoves.{raised, shortened, front_word, raised_word}
 use Rattle.next_word.proofs.word.climb.Given as goal
 
 abbrev pub invariant-loop-v : goal.invariant-loop-v

@@ -10,5 +10,5 @@ use Rattle.next_word.proofs.word.Word.extend.Goals as goal
 pub returns : goal.returns
 returns c =
     let w = c.args.self in
-    let size : length w.steps-1 ≡ 15 = search rules in
-    (refl, rw add-one (take-suc-set w.steps-1 w.len 0 (omega arith)))
+    let size : length w.steps ≡ 15 = search rules in
+    (refl, rw add-one (take-suc-set w.steps w.len 0 (omega arith)))

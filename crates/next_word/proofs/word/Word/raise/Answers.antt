@@ -9,5 +9,5 @@ use Rattle.next_word.proofs.word.Word.raise.Goals as goal
 pub returns : goal.returns
 returns c =
     let w = c.args.self in
-    let size : length w.steps-1 ≡ 15 = search rules in
-    (refl, last_set w.steps-1 w.len _ (omega arith) (omega arith))
+    let size : length w.steps ≡ 15 = search rules in
+    (refl, last_set w.steps w.len _ (omega arith) (omega arith))
