@@ -1,4 +1,3 @@
-use Prim.Native.Nat.{◌≤◌, ◌-◌}
 use mathlib.Core.Path.{refl, sym, ◌∙◌}
 use Rattle.feed.specs.Entry.{feed_call}
 use Rattle.feed.proofs.FeedCases.{taken_leads}

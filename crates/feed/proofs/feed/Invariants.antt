@@ -4,7 +4,7 @@
 use Prim.Native.Nat.{◌≤◌, ◌-◌}
 use mathlib.Core.Path.{◌≡◌}
 use lib.ListN.{length, drop}
-use Rattle.feed.specs.Entry.{feed_from, feed_call}
+use Rattle.feed.specs.Entry.{feed_from}
 use Rattle.feed.proofs.feed.Given as goal
 
 abbrev pub invariant-loop-next : goal.invariant-loop-next
