@@ -3,7 +3,6 @@
 use mathlib.Core.Path.{sym, ap, ◌∙◌}
 use Rattle.books.specs.declared.Checked.{Checked}
 use Rattle.books.proofs.LiveRowsCases.{live_refused, live_found}
-use borrow.Author.Rules.{rules}
 use Rattle.checking.proofs.live_rows.Goals as goal
 
 pub returns-then-fault-ne-DONE : goal.returns-then-fault-ne-DONE

@@ -10,7 +10,6 @@ use Rattle.books.proofs.BookSizes.{both_sized}
 use Rattle.books.proofs.CheckCases.{check_size, check_book_one, check_formed}
 use Rattle.books.proofs.Checks.{parts_of, sound_sizes}
 use Rattle.books.proofs.JournalCountCases.{form_by, form_not}
-use borrow.Author.Rules.{rules}
 use Rattle.checking.proofs.seen.see.Goals as goal
 
 pub returns-then-not-right_sizes : goal.returns-then-not-right_sizes
@@ -18,7 +17,7 @@ returns-then-not-right_sizes c =
     let w = sym c.right_sizes.ensures ∙ c.if-not-right_sizes.true in
     record {
       says = c.at.ensures ∙ sym (check_size _ _ w);
-      found = λ t. absurd (false≢true (sym w ∙ sound_sizes c.args.journals.now c.args.rows.now t))
+      found = λ t. absurd (false≢true (sym w ∙ sound_sizes c.args.journals.now c.args.rows.now t));
     }
 
 pub first_wrong_record-wrong-requires : goal.first_wrong_record-wrong-requires
@@ -33,7 +32,7 @@ returns-then-wrong-ne-JOURNALS c =
     let f = form_not jb (both_sized jb rb w).0 (λ z. c.if-wrong-ne-JOURNALS.true (e ∙ z)) in
     record {
       says = c.at-then-wrong-ne-JOURNALS.ensures ∙ ap (λ (n : ℕ). checked 2 1 n 0) e ∙ sym (check_book_one jb rb w f);
-      found = λ t. absurd (false≢true (sym f ∙ (parts_of jb rb t).0))
+      found = λ t. absurd (false≢true (sym f ∙ (parts_of jb rb t).0));
     }
 
 pub see_rows-requires : goal.see_rows-requires
@@ -51,5 +50,5 @@ returns c =
     let js = journals_of jb in
     record {
       says = c.see_rows.ensures.says ∙ sym (check_formed jb rb w f);
-      found = λ t. c.see_rows.ensures.found ∙ sym (says_few js _ refl (parts_of jb rb t).1)
+      found = λ t. c.see_rows.ensures.found ∙ sym (says_few js _ refl (parts_of jb rb t).1);
     }

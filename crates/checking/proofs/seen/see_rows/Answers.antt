@@ -5,7 +5,6 @@ use Rattle.records.specs.JournalBook.{journals_of}
 use Rattle.books.specs.Check.{compared}
 use Rattle.books.proofs.CheckCases.{rows_many, rows_compared}
 use Rattle.picture.proofs.Drawn.{found_many, found_few, drawn_few}
-use borrow.Author.Rules.{rules}
 use native.Mathlib.Omega.{arith}
 use Rattle.checking.proofs.seen.see_rows.Goals as goal
 
@@ -23,5 +22,5 @@ returns c =
     let few = found_few js (omega (arith, e)) in
     record {
       says = c.compare_rows.ensures ∙ ap (compared rb) (c.draw-found.ensures.rows_after ∙ drawn_few js _ few) ∙ sym (rows_compared js rb few);
-      found = e
+      found = e;
     }
