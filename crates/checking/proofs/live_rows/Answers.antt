@@ -3,18 +3,13 @@
 use mathlib.Core.Path.{sym, ap, ◌∙◌}
 use Rattle.books.specs.declared.Checked.{Checked}
 use Rattle.books.proofs.LiveRowsCases.{live_refused, live_found}
-use borrow.Author.Rules.{rules}
 use Rattle.checking.proofs.live_rows.Goals as goal
 
 pub returns-then-fault-ne-DONE : goal.returns-then-fault-ne-DONE
 returns-then-fault-ne-DONE c =
-    let seen = c in
-    let a = seen.args in
-    live_refused a.journals.now a.rows.now _ (ap (λ (k : Checked). k.number) seen.see-seen.ensures.says) c.if-fault-ne-DONE.true
+    live_refused c.args.journals.now c.args.rows.now _ (ap (λ (k : Checked). k.number) c.see-seen.ensures.says) c.if-fault-ne-DONE.true
 
 pub returns : goal.returns
 returns c =
-    let seen = c in
-    let a = seen.args in
-    let e = ap (λ (k : Checked). k.number) seen.see-seen.ensures.says in
-    live_found a.journals.now a.rows.now (sym e ∙ c.if-fault-ne-DONE.false) _ seen.see-seen.ensures.found
+    let e = ap (λ (k : Checked). k.number) c.see-seen.ensures.says in
+    live_found c.args.journals.now c.args.rows.now (sym e ∙ c.if-fault-ne-DONE.false) _ c.see-seen.ensures.found

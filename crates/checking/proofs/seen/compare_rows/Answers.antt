@@ -1,6 +1,5 @@
 -- `checking::seen::compare_rows` meets its contract: the spot that the walk came to says where the books differ, or that they don't.
 -- Assumes nothing.
-use borrow.Author.Rules.{rules}
 use native.Mathlib.Omega.{arith}
 use mathlib.Core.Path.{sym, ◌∙◌}
 use Rattle.books.proofs.Differences.{compared_differs, compared_same}
