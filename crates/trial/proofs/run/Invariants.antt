@@ -2,11 +2,10 @@
 use Prim.Native.Nat.{◌≤◌, ◌-◌}
 use lib.ListN.{length}
 use mathlib.Core.Path.{◌≡◌}
-use borrow.Author.Rules.{rules}
 use Rattle.trial.proofs.run.Given as goal
 
 abbrev pub invariant-loop-at : goal.invariant-loop-at
-invariant-loop-at l = (l.at ≤ length l.script) × (length l.journals ≡ length l.initial.journals) × (length l.rows ≡ length l.initial.rows) × (length l.output ≡ length l.initial.output)
+invariant-loop-at g l = (l.at ≤ length l.script) × (length l.journals ≡ length l.initial.journals) × (length l.rows ≡ length l.initial.rows) × (length l.output ≡ length l.initial.output)
 
 abbrev pub decreases-loop-at : goal.decreases-loop-at
-decreases-loop-at l = length l.script - l.at
+decreases-loop-at g l = length l.script - l.at

@@ -1,13 +1,10 @@
 -- `list_page::page_text` meets its contract. The invariant: the text begins with the lines of the first i words and is as it was behind them; each has room
 -- for 96 bytes. The measure is the number of words left.
-use Prim.Native.Nat.{ℕ, ◌*◌, ◌≤◌, ◌-◌}
-use mathlib.Core.Path.{◌≡◌, refl, ap, ◌∙◌}
-use mathlib.Core.List.{List, ◌++◌}
+use Prim.Native.Nat.{◌*◌, ◌≤◌, ◌-◌}
+use mathlib.Core.Path.{◌≡◌}
+use mathlib.Core.List.{◌++◌}
 use lib.ListN.{length, drop}
 use Rattle.load.specs.Page.{page_lines}
-use Rattle.load.proofs.PageLines.{line_put}
-use borrow.Author.Rules.{rules}
-use native.Mathlib.Omega.{arith}
 use Rattle.load.proofs.list_page.page_text.Given as goal
 
 abbrev pub invariant-loop-i : goal.invariant-loop-i

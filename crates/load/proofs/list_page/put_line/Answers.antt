@@ -1,4 +1,4 @@
-use Prim.Native.Nat.{ℕ, ◌+◌, ◌-◌, ◌≤◌}
+use Prim.Native.Nat.{ℕ, ◌+◌}
 use native.Mathlib.Numerals.{add-one}
 use native.Mathlib.Omega.{arith}
 use mathlib.Core.Path.{◌≡◌, refl, ap, ◌∙◌}
@@ -9,13 +9,13 @@ use borrow.Author.Rules.{rules}
 use Rattle.load.proofs.list_page.put_line.Goals as goal
 
 pub loop-i-init : goal.loop-i-init
-loop-i-init c = let a = c.args in (omega arith, refl, paste-zero a.text.now a.at a.line.bytes-1)
+loop-i-init c = let a = c.args in (omega arith, refl, paste-zero a.text.now a.at a.line.bytes)
 
 pub loop-i-preserved : goal.loop-i-preserved
 loop-i-preserved c =
     let l = c.loop-i in
     let a = c.args in
-    let bytes = a.line.bytes-1 in
+    let bytes = a.line.bytes in
     let size : length bytes ≡ 96 = search rules in (
       omega arith,
       simp length-set l.invariant.1,
@@ -24,10 +24,9 @@ loop-i-preserved c =
           ∙ paste-suc a.text.now a.at bytes l.i 0 (omega arith) (omega (arith, size))),
     )
 
--- FIELDS end bytes
-pub returns : goal.returns
-returns c =
+pub returns-clause-bytes : goal.returns-clause-bytes
+returns-clause-bytes c =
     let l = c.loop-i in
     let a = c.args in
     let e : l.i ≡ a.line.len = omega arith in
-    (refl, l.invariant.2 ∙ ap (λ (k : ℕ). paste a.text.now a.at a.line.bytes-1 k) e)
+    l.invariant.2 ∙ ap (λ (k : ℕ). paste a.text.now a.at a.line.bytes k) e

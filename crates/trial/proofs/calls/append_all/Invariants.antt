@@ -2,7 +2,6 @@
 use Prim.Native.Nat.{◌≤◌, ◌-◌}
 use lib.ListN.{length}
 use mathlib.Core.Path.{◌≡◌}
-use borrow.Author.Rules.{rules}
 use Rattle.trial.proofs.calls.append_all.Given as goal
 
 abbrev pub invariant-loop-taken : goal.invariant-loop-taken

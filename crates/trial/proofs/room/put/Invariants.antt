@@ -2,7 +2,6 @@
 use Prim.Native.Nat.{◌≤◌, ◌-◌}
 use lib.ListN.{length}
 use mathlib.Core.Path.{◌≡◌}
-use borrow.Author.Rules.{rules}
 use Rattle.trial.proofs.room.put.Given as goal
 
 abbrev pub invariant-loop-i : goal.invariant-loop-i
