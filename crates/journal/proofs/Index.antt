@@ -5,7 +5,7 @@ use native.Mathlib.Nat.{not-suc-le-zero, le_of_suc-le-suc}
 use native.Mathlib.Numerals.{add-one}
 use native.Mathlib.Omega.{arith}
 use mathlib.Core.Path.{◌≡◌, refl}
-use mathlib.Core.Bool.{false}
+use mathlib.Core.Bool.{true, false}
 use mathlib.Core.List.{List, [], ◌∷◌}
 use lib.ListN.{length, drop, get_or, drop_of_length-le}
 use lib.Dec.{eqb}
@@ -42,6 +42,10 @@ missed s w (x ∷ j) h =
     test (eqb x s) (λ t. absurd (not-suc-le-zero (rw t at h))) (λ f. rw f (missed s w j (le_of_suc-le-suc (rw f at h))))
 
 -- the same of a word that the code has, and of the index k that it found
+pub in_empty : (w j : List ℕ) → length w ≡ 0 → is_in w j ≡ true
+in_empty [] j h = refl
+in_empty (s ∷ w) j h = absurd (omega arith)
+
 pub in_found : (w j : List ℕ) (k : ℕ) → (length w ≡ 0 → ⊥) → k ≡ index_of (get_or w 0 0) j → k < length j
     → is_in w j ≡ is_in (drop 1 w) (drop (k + 1) j)
 in_found [] j k n e h = absurd (n refl)
