@@ -22,7 +22,7 @@ use Rattle.books.specs.Runs.{Call, clears, opens, appends, rebuilds, called, Ran
 use Rattle.books.proofs.Refusals.{given_first, pass}
 use Rattle.books.proofs.Runs.{call_keeps}
 use Rattle.entries.specs.Entry.{entry_of}
-use Rattle.entries.specs.Meaning.{means as entry_means, is_broken, entry_number}
+use Rattle.entries.specs.Meaning.{means as entry_leads_to, is_broken, entry_number}
 use Rattle.entries.specs.declared.entry.Entry.{Entry}
 use Rattle.feed.specs.Entry.{entry_call, feed_from, feed_call}
 use Rattle.feed.proofs.Entries.{entry_whole}
@@ -88,7 +88,7 @@ module _ (js : List (List ℕ)) (jb rb : List ℕ) (b : BooksOf js jb rb) where
   write_keeps (calls c) = call_keeps js jb rb b c
   write_keeps (entry n s) =
       let e : Entry = entry_of (length js) n s in
-      rw (entry_means b n s) (either_books (entry_number e js) (entry_means e js) js jb rb b (entry_books b n s))
+      rw (entry_means b n s) (either_books (entry_number e js) (entry_leads_to e js) js jb rb b (entry_books b n s))
   write_keeps (entries bytes) = (feed_means js jb rb b bytes).books
 
   stay_keeps : (a : After) → Stay jb rb a → BooksOf js a.journals a.rows

@@ -10,7 +10,6 @@ use Rattle.words.specs.Words.{IsWord}
 use Rattle.records.proofs.StepBytes.{form_steps}
 use Rattle.next_word.specs.Next.{from_on, table_of}
 use Rattle.next_word.proofs.FromOn.{from_empty}
-use borrow.Author.Rules.{rules}
 use Rattle.list.proofs.decide.first_due.Goals as goal
 
 pub read_word-requires : goal.read_word-requires
@@ -22,23 +21,28 @@ pub next_word-requires : goal.next_word-requires
 next_word-requires c =
     let a = c.args in
     let w = c.requires.2 c.if-after.true in
-    let f = form_steps 15 15 a.word-record.now w.0 (omega arith) w.1 in
+    let f = form_steps 15 15 a.word_record.now w.0 (omega arith) w.1 in
     (c.requires.0, record { short = omega (arith, w.2, c.read_word.ensures.0); codes = subst IsWord (sym c.read_word.ensures.1) f.2 }, c.requires.1)
 
 pub returns-then-after : goal.returns-then-after
 returns-then-after c =
     let a = c.args in
     let words = list_of (table_of a.rows.now) a.quorum a.limit in
-    (rw c.if-after.true (c.next_word.ensures.to ∙ ap (λ (w : List ℕ). take 1 (past w words)) c.read_word.ensures.1), c.next_word.ensures.fit)
+    record {
+      to = rw c.if-after.true (c.next_word.ensures.to ∙ ap (λ (w : List ℕ). take 1 (past w words)) c.read_word.ensures.1);
+      fit = c.next_word.ensures.fit;
+    }
 
 pub first_from-requires : goal.first_from-requires
 first_from-requires c =
     let a = c.args in
     (c.requires.0, record { short = omega (arith, c.empty.ensures.0); codes = subst IsWord (sym c.empty.ensures.1) tt }, c.requires.1)
 
--- FIELDS to fit
 pub returns : goal.returns
 returns c =
     let a = c.args in
     let words = list_of (table_of a.rows.now) a.quorum a.limit in
-    (rw c.if-after.false (c.first_from.ensures.to ∙ ap (λ (w : List ℕ). take 1 (from_on w words)) c.empty.ensures.1 ∙ ap (take 1) (from_empty words)), c.first_from.ensures.fit)
+    record {
+      to = rw c.if-after.false (c.first_from.ensures.to ∙ ap (λ (w : List ℕ). take 1 (from_on w words)) c.empty.ensures.1 ∙ ap (take 1) (from_empty words));
+      fit = c.first_from.ensures.fit;
+    }

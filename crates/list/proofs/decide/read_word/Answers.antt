@@ -1,4 +1,4 @@
-use Prim.Native.Nat.{ℕ, ◌+◌, ◌≤◌, ◌-◌}
+use Prim.Native.Nat.{ℕ, ◌+◌}
 use mathlib.Core.Path.{◌≡◌, refl, sym, ap, ◌∙◌}
 use native.Mathlib.Omega.{arith}
 use lib.ListN.{length, take, drop, get_or, replicate, length-set, length-drop}
@@ -12,7 +12,7 @@ loop-i-init c = (search rules, refl, refl)
 
 pub loop-i-preserved : goal.loop-i-preserved
 loop-i-preserved c =
-    let r = c.args.word-record.now in
+    let r = c.args.word_record.now in
     let l = c.loop-i in
     let e : 1 + l.i ≡ l.i + 1 = omega arith in
     let x : get_or r (l.i + 1) 0 ≡ get_or (drop 1 r) l.i 0 = sym (get_or-drop 1 r l.i 0 ∙ ap (λ (k : ℕ). get_or r k 0) e) in
@@ -20,7 +20,7 @@ loop-i-preserved c =
 
 pub returns : goal.returns
 returns c =
-    let r = c.args.word-record.now in
+    let r = c.args.word_record.now in
     let l = c.loop-i in
     let e : l.i ≡ 15 = omega arith in
     let n : length (drop 1 r) ≡ 15 = omega (arith, length-drop 1 r) in

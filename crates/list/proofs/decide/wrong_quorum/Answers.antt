@@ -2,7 +2,6 @@
 -- quorum must not pass. Assumes nothing.
 use mathlib.Core.Path.{ap}
 use lib.Dec.{ltb}
-use borrow.Author.Rules.{rules}
 use borrow.Author.Tests.{lt-ltb, le-ltb}
 use Rattle.books.specs.declared.Counted.{Counted}
 use Rattle.next_word.specs.Next.{table_of}
