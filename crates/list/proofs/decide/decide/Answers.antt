@@ -1,5 +1,6 @@
 -- `list::decide::decide` meets its contract: each return is one case of the list call's numbers. The word record's size and the output's are tested
 -- before the books, since any of them gives the first number. Assumes nothing.
+use native.Mathlib.Omega.{arith}
 use mathlib.Core.Path.{◌≡◌, sym, ap, ◌∙◌}
 use mathlib.Core.Bool.{false}
 use lib.ListN.{length}
@@ -40,7 +41,7 @@ returns-then-limit-gt-LONGEST_WORD c =
     let a = c.args in
     let g = asked a.journals.now a.rows.now a.quorum a.limit a.after a.word_record.now a.out.now in
     let o = sym c.wrong_output.ensures ∙ c.if-wrong_output.false in
-    limit_wrong g (seen g _ c.if-word_record-ne-WORD_RECORD.false o c.check-seen.ensures c.if-number-ne-DONE.false) c.if-limit-gt-LONGEST_WORD.true
+    limit_wrong g (seen g _ c.if-word_record-ne-WORD_RECORD.false o c.check-seen.ensures c.if-number-ne-DONE.false) (omega arith)
 
 pub returns-then-wrong_quorum : goal.returns-then-wrong_quorum
 returns-then-wrong_quorum c =
