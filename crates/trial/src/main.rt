@@ -82,7 +82,7 @@ fn run<W: Write>(
     Ok(())
 }
 
-// Runs the script on standard input.
+// Runs the script on standard input. A read or a write that fails ends it with that error.
 fn main(rt: HostRuntime) -> io::Result<()> {
     let mut script = Vec::new(rt.alloc());
     let mut journals = [0u8; JOURNAL_ROOM];
