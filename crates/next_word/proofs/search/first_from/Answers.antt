@@ -24,7 +24,7 @@ returns-then-reaches c =
     let f : l.found ≡ true = c.loop-found-test.true in
     let r : leb a.quorum (table_of a.rows.now (steps_in v)) ≡ true = sym c.reaches.ensures ∙ c.if-reaches.true in
     let e =
-        here (table_of a.rows.now) c.requires.2 a.quorum a.limit (steps_in v) l.invariant.1.codes (omega (arith, length-take v.len v.steps)) (leb-true _ _ r) in
+    here (table_of a.rows.now) c.requires.2 a.quorum a.limit (steps_in v) l.invariant.1.codes (omega (arith, length-take v.len v.steps)) (leb-true _ _ r) in
     record { to = sym (ap (take 1) (rw f at l.invariant.0) ∙ e); fit = l.invariant.1 }
 
 pub loop-found-smaller : goal.loop-found-smaller
