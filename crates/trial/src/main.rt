@@ -3,6 +3,8 @@
 // empty or begin with `#` are printed and nothing else. A line that is no command ends the run, and it is said.
 #![tactic(auto)]
 
+ghost use Rattle.std.specs.Prelude.{◌≤◌, length, IfOk};
+
 mod calls;
 mod command;
 mod list_page;
@@ -16,7 +18,7 @@ use script::number::MOST;
 use script::print::say;
 use script::text::find;
 use std::io;
-use std::io::{BufWriter, Read, Write};
+use std::io::{Read, Write};
 
 // The bytes of the longest script and one more.
 const LONGEST: usize = 262144;
@@ -82,14 +84,33 @@ fn run<W: Write>(
     Ok(())
 }
 
+// Reads until the buffer is full or the input ends. Answers how many bytes there are.
+fn read_script<R: Read>(input: &mut R, buffer: &mut [u8]) -> io::Result<usize>
+    ensures { IfOk result (λ n. n ≤ length buffer.old) }
+{
+    let mut n = 0;
+    while n < buffer.len() {
+        let more = input.read(&mut buffer[n..])?;
+        if more == 0 {
+            return Ok(n);
+        }
+        n += more;
+    }
+    Ok(n)
+}
+
 // Runs the script on standard input. A read or a write that fails ends it with that error.
 fn main(rt: HostRuntime) -> io::Result<()> {
-    let mut script = Vec::new(rt.alloc());
+    let mut script = [0u8; LONGEST];
     let mut journals = [0u8; JOURNAL_ROOM];
     let mut rows = [0u8; ROW_ROOM];
     let mut output = [0u8; OUTPUT_ROOM];
-    rt.stdin().take(LONGEST as u64).read_to_end(&mut script)?;
-    let mut out = BufWriter::new(rt.alloc(), rt.stdout())?;
-    run(&mut out, &script, &mut journals, &mut rows, &mut output)?;
-    out.flush()
+    let n = read_script(&mut rt.reader(), &mut script)?;
+    run(
+        &mut rt.stdout(),
+        &script[..n],
+        &mut journals,
+        &mut rows,
+        &mut output,
+    )
 }
