@@ -18,7 +18,7 @@ PAGES = sorted(glob.glob("*.md", root_dir=ROOT) + glob.glob("docs/**/*.md", root
 SOURCES = [path for ending in ("rt", "antt", "py", "rs", "h", "c") for path in glob.glob(f"**/*.{ending}", root_dir=ROOT, recursive=True)
            if "target" not in path.split("/")]
 # What a page speaks of and the tree has not: files that a run reads or makes.
-ELSEWHERE = re.compile(r"ask\.bin|Cargo\.toml|.*….*|target/.*|lib\w+\.a|/dev/\w+")
+ELSEWHERE = re.compile(r"ask\.bin|Cargo\.toml|.*….*|target/.*|crates/\w+/out/.*|lib\w+\.a|/dev/\w+")
 FILE = re.compile(r"[\w.*/-]+/[\w.*/-]*|[\w-]+\.(md|rt|antt|edit|py|sh|rs|h|c|txt|bin|toml)")
 NAME = re.compile(r"[A-Za-z][\w'-]*")
 KEYWORDS = r"pub(?:\(crate\))?|abbrev|unfoldable|record|data|unsafe|extern \"C\"|fn|struct|enum|const|type|mod|impl|def|class|static|inline|uint\d+_t|#define"
