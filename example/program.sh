@@ -1,5 +1,6 @@
 #!/usr/bin/env bash
-# program.sh PROGRAM: runs a built program. They are for x86-64; on another processor the kit's emulator runs them, as rt does.
+# program.sh PROGRAM: runs a built program. They are for x86-64; on another processor the emulator of the kit that was
+# used up to the port ran them.
 set -eu
 if [ "$(uname -m)" = x86_64 ]; then
   exec "$@"

@@ -17,19 +17,18 @@ crates() {
     END { visit(name); print count }' crates.txt
 }
 
-# Of what rt says a line for each crate that is done, and every half minute without one a sign of life.
+# Of what rt says a line for each crate that is proved anew, and every half minute without one a sign of life.
 progress() {
   local line at=0 status
   while :; do
     status=0
     IFS= read -r -t 30 line || status=$?
     if [ "$status" -gt 128 ]; then
-      echo "still proving: $at of $1 done after $SECONDS s"
+      echo "still proving: $at proved after $SECONDS s"
     elif [ "$status" -gt 0 ]; then
       return
     elif [[ $line =~ ^crate\ ([a-z0-9_]+):\ modules\ loaded=[0-9]+\ checked=([0-9]+)$ ]]; then
-      at=$((at + 1))
-      [ "${BASH_REMATCH[2]}" -eq 0 ] || echo "$at of $1 proved: ${BASH_REMATCH[1]}"
+      [ "${BASH_REMATCH[2]}" -eq 0 ] || { at=$((at + 1)); echo "proved: ${BASH_REMATCH[1]}"; }
     fi
   done
 }
@@ -38,7 +37,7 @@ command -v rt >/dev/null || { echo 'rt, of the Rattle kit, is needed'; exit 1; }
 count=$(crates)
 echo "rt $2 in crates/$name: proves the $count crates that it stands on, which takes minutes the first time"
 mkdir -p target
-if ! (cd "crates/$name" && rt "$2" </dev/null) 2>&1 | tee "$log" | progress "$count"; then
+if ! (cd "crates/$name" && rt "$2" </dev/null) 2>&1 | tee "$log" | progress; then
   cat "$log"
   echo "rt $2 in crates/$name failed: above is $log; to begin from nothing, remove every out/ below crates/"
   exit 1

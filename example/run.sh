@@ -6,7 +6,7 @@ set -eu
 cd "$(dirname "$(readlink -f "$0")")/.."
 
 program=crates/load/out/load
-if [ ! -x "$program" ] || [ -n "$(find crates crates.txt -name out -prune -o -type f -newer "$program" -print -quit)" ]; then
+if [ ! -x "$program" ] || [ -n "$(find crates crates.txt -name out -prune -o \( -type f -o -path 'crates/*/*' \) -newer "$program" -print -quit)" ]; then
   bash example/prove.sh load run >&2
   touch -c "$program"
 fi

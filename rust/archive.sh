@@ -15,7 +15,7 @@ Version: $(sed -n 's/^#define SELQUORIN_VERSION "\(.*\)"$/\1/p' include/selquori
 Cflags: -I\${pcfiledir}/../../include
 Libs: -L\${pcfiledir} -lselquorin
 END
-if [ ! -f "$archive" ] || [ -n "$(find crates crates.txt -name out -prune -o -type f -newer "$archive" -print -quit)" ]; then
+if [ ! -f "$archive" ] || [ -n "$(find crates crates.txt -name out -prune -o \( -type f -o -path 'crates/*/*' \) -newer "$archive" -print -quit)" ]; then
   bash example/prove.sh selquorin_c lib >&2
   cp crates/selquorin_c/out/libselquorin_c.a "$archive"
 fi

@@ -1,4 +1,5 @@
-"""The words that run a built program: the programs are for x86-64, and on another processor the kit's emulator runs them."""
+"""The words that run a built program: the programs are for x86-64, and on another processor the emulator of the kit that
+was used up to the port ran them."""
 import os
 import subprocess
 

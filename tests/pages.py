@@ -16,7 +16,7 @@ import sys
 ROOT = os.path.join(os.path.dirname(os.path.abspath(__file__)), "..")
 PAGES = sorted(glob.glob("*.md", root_dir=ROOT) + glob.glob("docs/**/*.md", root_dir=ROOT, recursive=True))
 SOURCES = [path for ending in ("rt", "antt", "py", "rs", "h", "c") for path in glob.glob(f"**/*.{ending}", root_dir=ROOT, recursive=True)
-           if "target" not in path.split("/")]
+           if not {"target", "out"} & set(path.split("/"))]
 # What a page speaks of and the tree has not: files that a run reads or makes.
 ELSEWHERE = re.compile(r"ask\.bin|Cargo\.toml|.*….*|target/.*|crates/\w+/out/.*|lib\w+\.a|/dev/\w+")
 FILE = re.compile(r"[\w.*/-]+/[\w.*/-]*|[\w-]+\.(md|rt|antt|edit|py|sh|rs|h|c|txt|bin|toml)")
