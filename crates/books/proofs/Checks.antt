@@ -23,7 +23,7 @@ use Rattle.records.proofs.Sound.{sound_books, books_sizes}
 use Rattle.records.proofs.Tests.{both, same_eq, differ_first, first_unique}
 use Rattle.words.proofs.Place.{short}
 use Rattle.words.proofs.Test.{test}
-use Rattle.books.specs.declared.Checked.{Checked}
+use Rattle.books.specs.Check.{Checked}
 use Rattle.books.proofs.Refusals.{first_given}
 use Rattle.books.proofs.BookSizes.{both_sized}
 use Rattle.books.proofs.CheckCases.{check_size, check_book_one, check_formed, rows_many, rows_compared, compared_right, compared_wrong}

@@ -14,7 +14,7 @@ use Rattle.records.proofs.Sound.{books_journals, books_sizes, books_sound}
 use Rattle.books.specs.Check.{check_call}
 use Rattle.books.specs.LiveRows.{live_rows_refusals, live_rows_answer, live_rows_call}
 use Rattle.books.specs.Numbers.{first, done}
-use Rattle.books.specs.declared.LiveRows.{LiveRows}
+use Rattle.books.specs.LiveRows.{LiveRows}
 use Rattle.books.proofs.Checks.{parts_of, check_sound, seen_refused, seen_sound}
 use Rattle.books.proofs.Refusals.{pass, refused, told_most}
 

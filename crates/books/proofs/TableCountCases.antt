@@ -17,7 +17,7 @@ use Rattle.books.specs.Numbers.{first, done, wrong_size, wrong_step, damaged}
 use Rattle.rows.specs.Walk.{bad_arc, along, walk_from, walk}
 use Rattle.rows.specs.declared.walk.Walked.TheVariants.{Row, Nowhere, Damage}
 use Rattle.books.specs.TableCount.{count_of, table_count_refusals, counted, table_count_call}
-use Rattle.books.specs.declared.Counted.{Counted}
+use Rattle.books.specs.TableCount.{Counted}
 use Rattle.books.proofs.Refusals.{neither, told_most}
 
 -- the count of a refusal is 0

@@ -7,7 +7,13 @@ use Rattle.records.specs.Bytes.{same, differ, First}
 use Rattle.records.specs.JournalBook.{journal_form, journals_of, first_wrong_record, FirstWrong}
 use Rattle.records.specs.RowBook.{row_book}
 use Rattle.records.specs.Sound.{right_sizes, sound}
-use Rattle.books.specs.declared.Checked.{Checked}
+
+-- what the check answers: a number, and where the books are wrong: the book, the record in it and the byte in that
+pub record Checked : Type 0 where
+  pub number : ℕ
+  pub book : ℕ
+  pub at : ℕ
+  pub byte : ℕ
 
 abbrev pub checked : ℕ → ℕ → ℕ → ℕ → Checked
 checked n k r b = record { number = n; book = k; at = r; byte = b }

@@ -5,8 +5,7 @@ use Rattle.records.specs.Sizes.{journal_book_size, word_record_size}
 use Rattle.books.specs.Numbers.{Refusal, first, wrong_size, damaged, wrong_word}
 use Rattle.records.specs.JournalBook.{journal_form, journals_of}
 use Rattle.records.specs.WordRecord.{word_form, word_of}
-use Rattle.books.specs.TableCount.{counted}
-use Rattle.books.specs.declared.Counted.{Counted}
+use Rattle.books.specs.TableCount.{Counted, counted}
 
 -- Journal count: 1, 10, 2.
 abbrev pub journal_count_refusals : List ℕ → List ℕ → List Refusal

@@ -10,4 +10,5 @@ pub mod RowRecord
 pub mod OpenJournals
 pub mod LiveRows
 pub mod Rebuild
+pub mod Answers
 pub mod Runs

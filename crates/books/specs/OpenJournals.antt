@@ -3,7 +3,6 @@ use Rattle.std.specs.Prelude.{ℕ, not, List, [], ◌∷◌, length, eqb}
 use Rattle.records.specs.Sizes.{journal_book_size}
 use Rattle.records.specs.JournalBook.{journal_form, journals_of}
 use Rattle.books.specs.Numbers.{Refusal, first, wrong_size, damaged, unless}
-use Rattle.books.specs.declared.OpenJournals.{OpenJournals}
 
 -- Open journals: 1, 2, by the journal book's size and form.
 abbrev pub open_journals_refusals : List ℕ → List Refusal
@@ -11,6 +10,11 @@ open_journals_refusals jb =
     record { holds = not (eqb (length jb) journal_book_size); number = wrong_size }
     ∷ record { holds = not (journal_form jb); number = damaged }
     ∷ []
+
+-- what is answered: a number, and how many journals are open
+pub record OpenJournals : Type 0 where
+  pub number : ℕ
+  pub journals : ℕ
 
 -- a number, and how many journals there are where it is 0
 abbrev pub open_journals_answer : ℕ → ℕ → OpenJournals

@@ -8,7 +8,6 @@ use Rattle.records.specs.RowBook.{count_at}
 use Rattle.rows.specs.Walk.{walk}
 use Rattle.rows.specs.declared.walk.Walked.{Walked}
 use Rattle.rows.specs.declared.walk.Walked.TheVariants.{Row, Nowhere, Damage}
-use Rattle.books.specs.declared.Counted.{Counted}
 
 abbrev pub is_damage : Walked → Bool
 is_damage (Row r) = false
@@ -28,6 +27,11 @@ table_count_refusals b w =
     ∷ record { holds = not (all_below step_codes w); number = wrong_step }
     ∷ record { holds = is_damage (walk b w); number = damaged }
     ∷ []
+
+-- what a count answers: a number, and the count
+pub record Counted : Type 0 where
+  pub number : ℕ
+  pub count : ℕ
 
 -- with a refusal the count is 0
 abbrev pub counted : ℕ → ℕ → Counted

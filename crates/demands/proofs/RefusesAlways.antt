@@ -24,10 +24,10 @@ use Rattle.books.specs.OpenJournals.{open_journals_call}
 use Rattle.books.specs.Rebuild.{rebuild_call}
 use Rattle.books.specs.RowRecord.{row_record_number_call, row_record_call}
 use Rattle.books.specs.TableCount.{table_count_call}
-use Rattle.books.specs.declared.Checked.{Checked}
-use Rattle.books.specs.declared.Counted.{Counted}
-use Rattle.books.specs.declared.LiveRows.{LiveRows}
-use Rattle.books.specs.declared.OpenJournals.{OpenJournals}
+use Rattle.books.specs.Check.{Checked}
+use Rattle.books.specs.TableCount.{Counted}
+use Rattle.books.specs.LiveRows.{LiveRows}
+use Rattle.books.specs.OpenJournals.{OpenJournals}
 use Rattle.ask.specs.Ask.{ask_call}
 use Rattle.feed.specs.Entry.{AfterFeeding, enter, entry_call, feed_from, feed_call}
 use Rattle.ask.specs.declared.Ask.{Ask}

@@ -29,7 +29,7 @@ use Rattle.books.specs.Open.{open_call}
 use Rattle.books.specs.Rebuild.{rebuild_call}
 use Rattle.books.specs.Runs.{opens, appends, Ran, run_from, cleared}
 use Rattle.books.specs.TableCount.{table_count_call}
-use Rattle.books.specs.declared.Counted.{Counted}
+use Rattle.books.specs.TableCount.{Counted}
 use Rattle.books.proofs.Refusals.{pass}
 use Rattle.books.proofs.Runs.{call_keeps, runs}
 use Rattle.demands.proofs.Demand2.{demand_2}

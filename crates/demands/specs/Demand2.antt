@@ -10,7 +10,7 @@ use Rattle.books.specs.Numbers.{done}
 use Rattle.books.specs.Rebuild.{rebuild_call}
 use Rattle.books.specs.Runs.{Ran}
 use Rattle.books.specs.TableCount.{table_count_call}
-use Rattle.books.specs.declared.Counted.{Counted}
+use Rattle.books.specs.TableCount.{Counted}
 use Rattle.demands.specs.Calls.{Reading, Writing}
 use Rattle.demands.specs.Demand1.{Stay}
 use Rattle.demands.specs.Lending.{Lending, lent}

@@ -6,7 +6,7 @@ use mathlib.Core.List.{List}
 use borrow.Author.Tests.{eq-eqb, ne_eqb}
 use Rattle.books.specs.Numbers.{first}
 use Rattle.books.specs.OpenJournals.{open_journals_refusals, open_journals_call}
-use Rattle.books.specs.declared.OpenJournals.{OpenJournals}
+use Rattle.books.specs.OpenJournals.{OpenJournals}
 use Rattle.books.specs.Clear.{after}
 use Rattle.books.proofs.OpenJournalsCases.{open_told, open_few}
 use Rattle.entries.specs.Entry.{entry_of}

@@ -25,7 +25,7 @@ use Rattle.books.specs.Write.{written}
 use Rattle.books.specs.Open.{open_call}
 use Rattle.books.specs.Append.{append_at_call, append_call}
 use Rattle.books.specs.OpenJournals.{open_journals_refusals, open_journals_call}
-use Rattle.books.specs.declared.OpenJournals.{OpenJournals}
+use Rattle.books.specs.OpenJournals.{OpenJournals}
 use Rattle.books.proofs.OpenJournalsCases.{open_books}
 use Rattle.entries.specs.Entry.{entry_of}
 use Rattle.entries.specs.Meaning.{means, entry_number}

@@ -16,7 +16,7 @@ use Rattle.records.specs.JournalBook.{journals_of}
 use Rattle.records.specs.Sound.{sound}
 use Rattle.records.proofs.Sound.{sound_books}
 use Rattle.records.proofs.Tests.{below_word}
-use Rattle.books.specs.declared.Counted.{Counted}
+use Rattle.books.specs.TableCount.{Counted}
 use Rattle.books.proofs.BookSizes.{both_sized}
 use Rattle.books.proofs.Checks.{sound_sizes}
 use Rattle.books.proofs.Counts.{table_count_right}

@@ -12,7 +12,7 @@ use Rattle.records.specs.JournalBook.{journals_of}
 use Rattle.records.specs.Sizes.{journal_book_size, row_book_size}
 use Rattle.records.specs.Sound.{BooksOf}
 use Rattle.records.proofs.Sound.{books_journals, books_sound, sound_books}
-use Rattle.books.specs.declared.Counted.{Counted}
+use Rattle.books.specs.TableCount.{Counted}
 use Rattle.books.proofs.Counts.{table_count_right}
 use Rattle.ask.specs.Ask.{ask_call}
 use Rattle.feed.specs.Entry.{AfterFeeding, feed_call}

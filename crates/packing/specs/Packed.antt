@@ -1,9 +1,9 @@
 -- Answers packed into one number, for callers in C or Rust. Assumes nothing.
 use Rattle.std.specs.Prelude.{ℕ, ◌+◌, ◌*◌, Bool, cond}
-use Rattle.books.specs.declared.Counted.{Counted}
-use Rattle.books.specs.declared.Checked.{Checked}
-use Rattle.books.specs.declared.OpenJournals.{OpenJournals}
-use Rattle.books.specs.declared.LiveRows.{LiveRows}
+use Rattle.books.specs.TableCount.{Counted}
+use Rattle.books.specs.Check.{Checked}
+use Rattle.books.specs.OpenJournals.{OpenJournals}
+use Rattle.books.specs.LiveRows.{LiveRows}
 
 -- the most words of one output
 abbrev pub most_words : ℕ

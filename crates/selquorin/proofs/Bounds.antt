@@ -13,9 +13,9 @@ use Rattle.books.specs.Numbers.{first}
 use Rattle.books.specs.Check.{check_call, Verdict, wrong_sizes, book_one, too_many, book_two, all_right}
 use Rattle.books.specs.OpenJournals.{open_journals_call}
 use Rattle.books.specs.LiveRows.{live_rows_call}
-use Rattle.books.specs.declared.Checked.{Checked}
-use Rattle.books.specs.declared.OpenJournals.{OpenJournals}
-use Rattle.books.specs.declared.LiveRows.{LiveRows}
+use Rattle.books.specs.Check.{Checked}
+use Rattle.books.specs.OpenJournals.{OpenJournals}
+use Rattle.books.specs.LiveRows.{LiveRows}
 use Rattle.books.proofs.BookSizes.{both_sized}
 use Rattle.books.proofs.Checks.{check_verdict}
 use Rattle.books.proofs.LiveRowsCases.{live_few}

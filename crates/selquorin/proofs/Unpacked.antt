@@ -9,10 +9,10 @@ use Rattle.books.specs.JournalCount.{journal_count_refusals, journal_count_call}
 use Rattle.books.specs.Check.{check_call}
 use Rattle.books.specs.OpenJournals.{open_journals_refusals, open_journals_call}
 use Rattle.books.specs.LiveRows.{live_rows_refusals, live_rows_call}
-use Rattle.books.specs.declared.Counted.{Counted}
-use Rattle.books.specs.declared.Checked.{Checked}
-use Rattle.books.specs.declared.OpenJournals.{OpenJournals}
-use Rattle.books.specs.declared.LiveRows.{LiveRows}
+use Rattle.books.specs.TableCount.{Counted}
+use Rattle.books.specs.Check.{Checked}
+use Rattle.books.specs.OpenJournals.{OpenJournals}
+use Rattle.books.specs.LiveRows.{LiveRows}
 use Rattle.books.proofs.JournalCountCases.{journal_few}
 use Rattle.books.proofs.Refusals.{first_each}
 use Rattle.books.proofs.TableCountCases.{table_few}

@@ -1,7 +1,7 @@
 -- `checking::live_rows` meets its contract: a fault that was seen is refused with its number, and else the number that was found counts.
 -- Assumes nothing.
 use mathlib.Core.Path.{sym, ap, ◌∙◌}
-use Rattle.books.specs.declared.Checked.{Checked}
+use Rattle.books.specs.Check.{Checked}
 use Rattle.books.proofs.LiveRowsCases.{live_refused, live_found}
 use Rattle.checking.proofs.live_rows.Goals as goal
 

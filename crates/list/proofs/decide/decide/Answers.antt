@@ -5,7 +5,7 @@ use mathlib.Core.Path.{◌≡◌, sym, ap, ◌∙◌}
 use mathlib.Core.Bool.{false}
 use lib.ListN.{length}
 use borrow.Author.Tests.{eq-eqb, ne_eqb}
-use Rattle.books.specs.declared.Checked.{Checked}
+use Rattle.books.specs.Check.{Checked}
 use Rattle.books.specs.Check.{check_call}
 use Rattle.list.specs.ListCall.{Asked, asked, wrong_output}
 use Rattle.list.proofs.ListCases.{Seen, size_wrong, books_wrong, limit_wrong, quorum_wrong, word_refused, word_taken, word_unasked}

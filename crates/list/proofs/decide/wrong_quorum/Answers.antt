@@ -3,7 +3,7 @@
 use mathlib.Core.Path.{ap}
 use lib.Dec.{ltb}
 use borrow.Author.Tests.{lt-ltb, le-ltb}
-use Rattle.books.specs.declared.Counted.{Counted}
+use Rattle.books.specs.TableCount.{Counted}
 use Rattle.next_word.specs.Next.{table_of}
 use Rattle.list.proofs.decide.wrong_quorum.Goals as goal
 

@@ -2,7 +2,7 @@
 use mathlib.Core.Path.{sym, ap, ◌∙◌}
 use borrow.Author.Tests.{eq-eqb, ne_eqb}
 use Rattle.books.specs.JournalCount.{journal_count_call}
-use Rattle.books.specs.declared.Counted.{Counted}
+use Rattle.books.specs.TableCount.{Counted}
 use Rattle.list.proofs.decide.wrong_word.Goals as goal
 
 pub returns-then-number-eq-WRONG_WORD : goal.returns-then-number-eq-WRONG_WORD

@@ -5,7 +5,7 @@ use mathlib.Core.Bool.{cond}
 use mathlib.Core.List.{List, []}
 use lib.ListN.{length, take, drop}
 use lib.Dec.{leb}
-use Rattle.books.specs.declared.Counted.{Counted}
+use Rattle.books.specs.TableCount.{Counted}
 use Rattle.text.specs.Text.{word_line}
 use Rattle.text.specs.Lines.{line_of}
 use Rattle.load.proofs.PageLines.{record_line}

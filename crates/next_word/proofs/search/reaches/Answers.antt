@@ -5,7 +5,7 @@ use lib.ListN.{length}
 use lib.Seq.{length-take-le}
 use lib.Dec.{leb}
 use borrow.Author.Rules.{rules}
-use Rattle.books.specs.declared.Counted.{Counted}
+use Rattle.books.specs.TableCount.{Counted}
 use Rattle.next_word.specs.Next.{table_of}
 use Rattle.next_word.proofs.search.reaches.Goals as goal
 

@@ -3,7 +3,7 @@
 use mathlib.Core.Path.{◌≡◌, sym, ap, ◌∙◌}
 use native.Mathlib.Omega.{arith}
 use lib.ListN.{length}
-use Rattle.books.specs.declared.Checked.{Checked}
+use Rattle.books.specs.Check.{Checked}
 use Rattle.books.proofs.Checks.{checked_sizes}
 use Rattle.books.proofs.AppendCases.{append_seen, append_step, append_none, append_long, append_free}
 use Rattle.writing.proofs.appending.decide_append.Goals as goal

@@ -1,6 +1,6 @@
 -- `writing::opening::decide_open` meets its contract: what the check says, then how many journals there are. Assumes nothing.
 use mathlib.Core.Path.{sym, ap, ◌∙◌}
-use Rattle.books.specs.declared.Checked.{Checked}
+use Rattle.books.specs.Check.{Checked}
 use Rattle.books.proofs.Checks.{checked_sizes}
 use Rattle.books.proofs.OpenCases.{open_seen, open_full, open_free}
 use native.Mathlib.Omega.{arith}
