@@ -124,7 +124,7 @@ module _ (jb rb : List ℕ) where
 
   -- what a call that first checks the books answers, by the number that the check gives
   module _ (rest : List Refusal) where
-    abbrev checked_first : List Refusal
+    abbrev pub checked_first : List Refusal
     checked_first = record { holds = not (right_sizes jb rb); number = 1 } ∷ record { holds = not (sound jb rb); number = 2 } ∷ rest
 
     -- a fault is answered as it is

@@ -11,6 +11,7 @@ pub mod JournalCountCases
 pub mod Differences
 pub mod CheckCases
 pub mod Checks
+pub mod Faults
 pub mod WriteCases
 pub mod OpenCases
 pub mod AppendCases

@@ -1,4 +1,4 @@
--- The number of live rows by its cases, as the check tells them: refused with the check's number, or that of the picture, and the
+-- The number of live rows by its cases, as the check tells them: refused where it tells a fault, or that of the picture, and the
 -- latter on the books of journals. Assumes nothing.
 use Prim.Native.Nat.{ℕ, ◌≤◌}
 use mathlib.Core.Path.{◌≡◌, sym, ap, ap₂, ◌∙◌}
@@ -11,11 +11,14 @@ use Rattle.records.specs.JournalBook.{journals_of}
 use Rattle.records.specs.Sizes.{most_rows}
 use Rattle.records.specs.Sound.{right_sizes, sound, BooksOf}
 use Rattle.records.proofs.Sound.{books_journals, books_sizes, books_sound}
-use Rattle.books.specs.Check.{check_call}
+use Rattle.books.specs.Answers.{number_of, fault_at, refused_by}
+use Rattle.books.specs.Check.{checked, check_call}
 use Rattle.books.specs.LiveRows.{live_rows_refusals, live_rows_answer, live_rows_call}
 use Rattle.books.specs.Numbers.{first, done}
 use Rattle.books.specs.LiveRows.{LiveRows}
-use Rattle.books.proofs.Checks.{parts_of, check_sound, seen_refused, seen_sound}
+use Rattle.books.specs.declared.fault.Fault.{Fault}
+use Rattle.books.proofs.Checks.{parts_of, seen_sound}
+use Rattle.books.proofs.Faults.{refusal_told, fault_refused, fault_none}
 use Rattle.books.proofs.Refusals.{pass, refused, told_most}
 
 -- a number and a number of rows, as the code answers them
@@ -24,16 +27,16 @@ answer n r = record { number = n; rows = r }
 
 module _ (jb rb : List ℕ) where
   -- a fault that the check tells
-  pub live_refused : (n : ℕ) → n ≡ (check_call jb rb).number → (n ≡ 0 → ⊥) → answer n 0 ≡ live_rows_call jb rb
+  pub live_refused : (f : Fault) → fault_at f ≡ check_call jb rb → answer (number_of (refused_by f)) 0 ≡ live_rows_call jb rb
   unfolding live_rows_call
-  live_refused n e h =
-      let f : n ≡ first (live_rows_refusals jb rb) = e ∙ seen_refused jb rb [] (λ z. h (e ∙ z)) in
-      ap₂ answer f (sym (refused (first (live_rows_refusals jb rb)) (length (picture (journals_of jb))) 0 (λ z. h (f ∙ z))))
+  live_refused f e =
+      let n = fault_refused jb rb [] f e in
+      ap₂ answer n (sym (refused (first (live_rows_refusals jb rb)) (length (picture (journals_of jb))) 0 (λ z. refusal_told (refused_by f) (n ∙ z))))
 
-  -- and none: the number that was found, which is that of the picture where the books are sound
-  pub live_found : (check_call jb rb).number ≡ 0 → (r : ℕ) → (sound jb rb ≡ true → r ≡ length (picture (journals_of jb))) → answer 0 r ≡ live_rows_call jb rb
+  -- and none: the number that was found, which is that of the picture
+  pub live_found : checked 0 0 0 0 ≡ check_call jb rb → {r : ℕ} → r ≡ length (picture (journals_of jb)) → answer 0 r ≡ live_rows_call jb rb
   unfolding live_rows_call
-  live_found e r f = rw (seen_sound jb rb [] e) (ap (answer 0) (f ((check_sound jb rb).0 e)))
+  live_found e r = rw (seen_sound jb rb [] (fault_none jb rb e)) (ap (answer 0) r)
 
   -- books that aren't refused are sound
   told_sound : first (live_rows_refusals jb rb) ≡ 0 → sound jb rb ≡ true
