@@ -18,8 +18,11 @@ use Rattle.books.specs.Numbers.{Refusal, first, wrong_size}
 use Rattle.books.specs.Clear.{after}
 use Rattle.books.specs.Write.{rows_refusal, write_call}
 use Rattle.books.specs.Append.{early_refusals, append_refusals, append_at_call, append_call}
-use Rattle.books.specs.Check.{check_call}
-use Rattle.books.proofs.Checks.{parts_of, seen_refused, seen_sound}
+use Rattle.books.specs.Answers.{number_of, fault_at, refused_by}
+use Rattle.books.specs.Check.{checked, check_call}
+use Rattle.books.specs.declared.fault.Fault.{Fault}
+use Rattle.books.proofs.Checks.{parts_of}
+use Rattle.books.proofs.Faults.{fault_refused, none_refused}
 use Rattle.books.proofs.Refusals.{pass}
 use Rattle.books.proofs.WriteCases.{written_refused, written_last}
 
@@ -41,26 +44,26 @@ module _ (jb rb : List ℕ) (i s : ℕ) where
       ∷ record { holds = leb 200 (steps_at i (journals_of jb)); number = 5 }
       ∷ []
 
-  module _ (e : (check_call jb rb).number ≡ 0) where
+  module _ (e : checked 0 0 0 0 ≡ check_call jb rb) where
     pub append_step : 16 ≤ s → 3 ≡ first (early_refusals jb rb i s)
     unfolding more
-    append_step h = sym (seen_sound jb rb more e ∙ rw (le-leb 16 s h))
+    append_step h = sym (none_refused jb rb more e ∙ rw (le-leb 16 s h))
 
     pub append_none : s < 16 → length (journals_of jb) ≤ i → 4 ≡ first (early_refusals jb rb i s)
     unfolding more
-    append_none h n = sym (seen_sound jb rb more e ∙ rw (lt-leb 16 s h, le-leb (length (journals_of jb)) i n))
+    append_none h n = sym (none_refused jb rb more e ∙ rw (lt-leb 16 s h, le-leb (length (journals_of jb)) i n))
 
     pub append_long : s < 16 → i < length (journals_of jb) → 200 ≤ steps_at i (journals_of jb) → 5 ≡ first (early_refusals jb rb i s)
     unfolding more
-    append_long h n l = sym (seen_sound jb rb more e ∙ rw (lt-leb 16 s h, lt-leb (length (journals_of jb)) i n, le-leb 200 (steps_at i (journals_of jb)) l))
+    append_long h n l = sym (none_refused jb rb more e ∙ rw (lt-leb 16 s h, lt-leb (length (journals_of jb)) i n, le-leb 200 (steps_at i (journals_of jb)) l))
 
     pub append_free : s < 16 → i < length (journals_of jb) → steps_at i (journals_of jb) < 200 → 0 ≡ first (early_refusals jb rb i s)
     unfolding more
-    append_free h n l = sym (seen_sound jb rb more e ∙ rw (lt-leb 16 s h, lt-leb (length (journals_of jb)) i n, lt-leb 200 (steps_at i (journals_of jb)) l))
+    append_free h n l = sym (none_refused jb rb more e ∙ rw (lt-leb 16 s h, lt-leb (length (journals_of jb)) i n, lt-leb 200 (steps_at i (journals_of jb)) l))
 
-  pub append_seen : ((check_call jb rb).number ≡ 0 → ⊥) → (check_call jb rb).number ≡ first (early_refusals jb rb i s)
+  pub append_seen : (f : Fault) → fault_at f ≡ check_call jb rb → number_of (refused_by f) ≡ first (early_refusals jb rb i s)
   unfolding more
-  append_seen h = seen_refused jb rb more h
+  append_seen f e = fault_refused jb rb more f e
 
   -- the books hold journals, journal i is one of them and has room, and the step is a code
   pub record CanAppend : Type 0 where

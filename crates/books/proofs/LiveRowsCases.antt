@@ -17,8 +17,8 @@ use Rattle.books.specs.LiveRows.{live_rows_refusals, live_rows_answer, live_rows
 use Rattle.books.specs.Numbers.{first, done}
 use Rattle.books.specs.LiveRows.{LiveRows}
 use Rattle.books.specs.declared.fault.Fault.{Fault}
-use Rattle.books.proofs.Checks.{parts_of, seen_sound}
-use Rattle.books.proofs.Faults.{refusal_told, fault_refused, fault_none}
+use Rattle.books.proofs.Checks.{parts_of}
+use Rattle.books.proofs.Faults.{refusal_told, fault_refused, none_refused}
 use Rattle.books.proofs.Refusals.{pass, refused, told_most}
 
 -- a number and a number of rows, as the code answers them
@@ -36,7 +36,7 @@ module _ (jb rb : List ℕ) where
   -- and none: the number that was found, which is that of the picture
   pub live_found : checked 0 0 0 0 ≡ check_call jb rb → {r : ℕ} → r ≡ length (picture (journals_of jb)) → answer 0 r ≡ live_rows_call jb rb
   unfolding live_rows_call
-  live_found e r = rw (seen_sound jb rb [] (fault_none jb rb e)) (ap (answer 0) r)
+  live_found e r = rw (none_refused jb rb [] e) (ap (answer 0) r)
 
   -- books that aren't refused are sound
   told_sound : first (live_rows_refusals jb rb) ≡ 0 → sound jb rb ≡ true

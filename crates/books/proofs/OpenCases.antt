@@ -20,8 +20,11 @@ use Rattle.books.specs.Numbers.{Refusal, first}
 use Rattle.books.specs.Clear.{after}
 use Rattle.books.specs.Write.{write_call}
 use Rattle.books.specs.Open.{open_refusals, open_call}
-use Rattle.books.specs.Check.{check_call}
-use Rattle.books.proofs.Checks.{parts_of, seen_refused, seen_sound}
+use Rattle.books.specs.Answers.{number_of, fault_at, refused_by}
+use Rattle.books.specs.Check.{checked, check_call}
+use Rattle.books.specs.declared.fault.Fault.{Fault}
+use Rattle.books.proofs.Checks.{parts_of}
+use Rattle.books.proofs.Faults.{fault_refused, none_refused}
 use Rattle.books.proofs.Refusals.{pass}
 use Rattle.books.proofs.WriteCases.{written_refused, written_last}
 
@@ -56,17 +59,17 @@ module _ (jb rb : List ℕ) where
   full : Refusal
   full = record { holds = leb 16 (length (journals_of jb)); number = 7 }
 
-  pub open_seen : ((check_call jb rb).number ≡ 0 → ⊥) → (check_call jb rb).number ≡ first (open_refusals jb rb)
+  pub open_seen : (f : Fault) → fault_at f ≡ check_call jb rb → number_of (refused_by f) ≡ first (open_refusals jb rb)
   unfolding full
-  open_seen h = seen_refused jb rb (full ∷ []) h
+  open_seen f e = fault_refused jb rb (full ∷ []) f e
 
-  pub open_full : (check_call jb rb).number ≡ 0 → 16 ≤ length (journals_of jb) → 7 ≡ first (open_refusals jb rb)
+  pub open_full : checked 0 0 0 0 ≡ check_call jb rb → 16 ≤ length (journals_of jb) → 7 ≡ first (open_refusals jb rb)
   unfolding full
-  open_full e h = sym (seen_sound jb rb (full ∷ []) e ∙ rw (le-leb 16 (length (journals_of jb)) h))
+  open_full e h = sym (none_refused jb rb (full ∷ []) e ∙ rw (le-leb 16 (length (journals_of jb)) h))
 
-  pub open_free : (check_call jb rb).number ≡ 0 → length (journals_of jb) < 16 → 0 ≡ first (open_refusals jb rb)
+  pub open_free : checked 0 0 0 0 ≡ check_call jb rb → length (journals_of jb) < 16 → 0 ≡ first (open_refusals jb rb)
   unfolding full
-  open_free e h = sym (seen_sound jb rb (full ∷ []) e ∙ rw (lt-leb 16 (length (journals_of jb)) h))
+  open_free e h = sym (none_refused jb rb (full ∷ []) e ∙ rw (lt-leb 16 (length (journals_of jb)) h))
 
   -- the call, refused and done
   pub open_refused : (n : ℕ) → n ≡ first (open_refusals jb rb) → (n ≡ 0 → ⊥) → after n jb rb ≡ open_call jb rb

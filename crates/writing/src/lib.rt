@@ -6,13 +6,14 @@ mod opening;
 mod write;
 
 ghost use Rattle.std.specs.Prelude.{◌≡◌};
+ghost use Rattle.books.specs.Answers.{number_in};
 ghost use Rattle.books.specs.Clear.{after, clear_call};
 ghost use Rattle.books.specs.Open.{open_call};
 ghost use Rattle.books.specs.Append.{append_call};
 ghost use Rattle.books.specs.Rebuild.{rebuild_call};
 
 use appending::append_at;
-use books::number::{DAMAGED, DONE, WRONG_SIZE};
+use books::Refused;
 use checking::size::right_sizes;
 use opening::decide_open;
 use records::JOURNAL_BOOK;
@@ -20,36 +21,33 @@ use words::JOURNALS;
 use write::{write_books, write_rows};
 
 // Clears both books: every byte of them becomes zero.
-pub fn clear(journals: &mut [u8], rows: &mut [u8]) -> u8
-    ensures { after result journals.new rows.new ≡ clear_call journals.old rows.old }
+pub fn clear(journals: &mut [u8], rows: &mut [u8]) -> Result<(), Refused>
+    ensures { after (number_in result) journals.new rows.new ≡ clear_call journals.old rows.old }
 {
     if !right_sizes(journals, rows) {
-        return WRONG_SIZE;
+        return Err(Refused::WrongSize);
     }
-    lent_bytes::zero_all(journals);
-    lent_bytes::zero_all(rows);
-    DONE
+    journals.fill(0);
+    rows.fill(0);
+    Ok(())
 }
 
 // Opens the next journal, an empty one, behind the others.
-pub fn open(journals: &mut [u8], rows: &mut [u8]) -> u8
-    ensures { after result journals.new rows.new ≡ open_call journals.old rows.old }
+pub fn open(journals: &mut [u8], rows: &mut [u8]) -> Result<(), Refused>
+    ensures { after (number_in result) journals.new rows.new ≡ open_call journals.old rows.old }
 {
-    let number = decide_open(journals, rows);
-    if number != DONE {
-        return number;
-    }
+    decide_open(journals, rows)?;
     let mut wider = [0u8; JOURNAL_BOOK];
     journal::with_journal(journals, &mut wider);
     write_books(&wider, journals, rows)
 }
 
 // Appends a step to the journal opened last.
-pub fn append(journals: &mut [u8], rows: &mut [u8], step: u8) -> u8
-    ensures { after result journals.new rows.new ≡ append_call journals.old rows.old step }
+pub fn append(journals: &mut [u8], rows: &mut [u8], step: u8) -> Result<(), Refused>
+    ensures { after (number_in result) journals.new rows.new ≡ append_call journals.old rows.old step }
 {
     if !right_sizes(journals, rows) {
-        return WRONG_SIZE;
+        return Err(Refused::WrongSize);
     }
     // Only a book of its size can be asked for its last journal.
     let last = journal::last_journal(journals);
@@ -57,15 +55,15 @@ pub fn append(journals: &mut [u8], rows: &mut [u8], step: u8) -> u8
 }
 
 // Draws the row book anew from the journal book alone, whatever the row book held.
-pub fn rebuild(journals: &[u8], rows: &mut [u8]) -> u8
-    ensures { after result journals.now rows.new ≡ rebuild_call journals.now rows.old }
+pub fn rebuild(journals: &[u8], rows: &mut [u8]) -> Result<(), Refused>
+    ensures { after (number_in result) journals.now rows.new ≡ rebuild_call journals.now rows.old }
 {
     if !right_sizes(journals, rows) {
-        return WRONG_SIZE;
+        return Err(Refused::WrongSize);
     }
     let wrong = journal::first_wrong_record(journals);
     if wrong != JOURNALS {
-        return DAMAGED;
+        return Err(Refused::Damaged);
     }
     write_rows(journals, rows)
 }

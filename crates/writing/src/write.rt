@@ -5,34 +5,32 @@ ghost use Rattle.records.specs.JournalBook.{journal_form, journals_of};
 ghost use Rattle.records.specs.RowBook.{row_book};
 ghost use Rattle.records.specs.Sizes.{row_book_size};
 ghost use Rattle.records.specs.Sound.{right_sizes};
+ghost use Rattle.books.specs.Answers.{number_in};
 ghost use Rattle.books.specs.Numbers.{first, unless};
 ghost use Rattle.books.specs.Clear.{after};
 ghost use Rattle.books.specs.Write.{rows_refusal, write_call};
 
-use books::number::{DONE, ROWS_FULL};
+use books::Refused;
 use records::ROWS;
 
 // Writes the picture of a journal book into a row book, or leaves that where the picture doesn't fit.
-pub(crate) fn write_rows(journals: &[u8], rows: &mut [u8]) -> u8
+pub(crate) fn write_rows(journals: &[u8], rows: &mut [u8]) -> Result<(), Refused>
     requires { (journal_form journals.now ≡ true) × (length rows.old ≡ row_book_size) }
-    ensures number { result ≡ first (rows_refusal (journals_of journals.now) ∷ []) }
-    ensures rows_after { rows.new ≡ unless result (row_book (journals_of journals.now)) rows.old }
+    ensures number { number_in result ≡ first (rows_refusal (journals_of journals.now) ∷ []) }
+    ensures rows_after { rows.new ≡ unless (number_in result) (row_book (journals_of journals.now)) rows.old }
 {
     if ROWS < picture::draw(journals, rows) {
-        return ROWS_FULL;
+        return Err(Refused::RowsFull);
     }
-    DONE
+    Ok(())
 }
 
 // Writes a new journal book and its picture, or leaves both books where the picture doesn't fit.
-pub(crate) fn write_books(made: &[u8], journals: &mut [u8], rows: &mut [u8]) -> u8
+pub(crate) fn write_books(made: &[u8], journals: &mut [u8], rows: &mut [u8]) -> Result<(), Refused>
     requires { (journal_form made.now ≡ true) × (right_sizes journals.old rows.old ≡ true) }
-    ensures { after result journals.new rows.new ≡ write_call (journals_of made.now) journals.old rows.old }
+    ensures { after (number_in result) journals.new rows.new ≡ write_call (journals_of made.now) journals.old rows.old }
 {
-    let number = write_rows(made, rows);
-    if number != DONE {
-        return number;
-    }
-    lent_bytes::copy_all(made, journals);
-    DONE
+    write_rows(made, rows)?;
+    journals.copy_from_slice(made);
+    Ok(())
 }

@@ -1,5 +1,6 @@
 -- `writing::clear` meets its contract: wrong sizes are its one refusal, and with right ones each book is what zeroing it leaves.
 -- Assumes nothing.
+use Rattle.std.proofs.Common.{rules, ◌≡◌, length, replicate}
 use mathlib.Core.Path.{sym, ap₂, ◌∙◌}
 use Rattle.books.specs.Numbers.{done}
 use Rattle.books.specs.Clear.{after, zeros}
@@ -12,4 +13,6 @@ returns-then-not-right_sizes c = sym (clear_size _ _ (sym c.right_sizes.ensures 
 pub returns : goal.returns
 unfolding zeros
 returns c =
-    ap₂ (after done) c.zero_all.ensures c.zero_all-2.ensures ∙ sym (clear_done _ _ (sym c.right_sizes.ensures ∙ c.if-not-right_sizes.false))
+    let j : c.fill.new.self ≡ replicate (length c.args.journals.now) 0 = search rules in
+    let r : c.fill-2.new.self ≡ replicate (length c.args.rows.now) 0 = search rules in
+    ap₂ (after done) j r ∙ sym (clear_done _ _ (sym c.right_sizes.ensures ∙ c.if-not-right_sizes.false))

@@ -32,4 +32,4 @@ returns c =
     let rb = c.args.rows.now in
     let sized = sym c.right_sizes.ensures ∙ c.if-not-right_sizes.false in
     let formed = form_by jb (both_sized jb rb sized).0 (sym c.first_wrong_record-wrong.ensures ∙ c.if-wrong-ne-JOURNALS.false) in
-    rebuild_drawn jb rb sized formed c.write_rows.result c.write_rows.ensures.number _ c.write_rows.ensures.rows_after
+    rebuild_drawn jb rb sized formed _ c.write_rows.ensures.number _ c.write_rows.ensures.rows_after
