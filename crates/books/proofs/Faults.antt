@@ -1,41 +1,16 @@
--- What a refusal's number isn't, and a fault that the check tells as a call that first checks the books is refused by it. Assumes nothing.
+-- What the check tells, as the numbers of a call that first checks the books: a fault's, or the call's others. Assumes nothing.
 use Prim.Native.Nat.{ℕ}
-use mathlib.Core.Path.{◌≡◌, refl, sym, ap, ◌∙◌}
+use mathlib.Core.Path.{◌≡◌, sym, ap, ◌∙◌}
 use mathlib.Core.Bool.{true}
 use mathlib.Core.List.{List}
 use lib.ListN.{length}
-use native.Mathlib.Omega.{arith}
 use Rattle.records.specs.JournalBook.{journal_form}
 use Rattle.books.specs.Numbers.{Refusal, first}
 use Rattle.books.specs.Check.{Checked, checked, check_call}
 use Rattle.books.specs.Answers.{number_of, fault_at, refused_by}
-use Rattle.books.specs.declared.refused.Refused.{Refused}
-use Rattle.books.specs.declared.refused.Refused.TheVariants.{WrongSize, Damaged, WrongStep, NoJournal, JournalFull, RowsFull, JournalsFull, WrongQuorum, WrongLength, WrongWord, BrokenEntry, WrongAsk, WrongRow}
 use Rattle.books.specs.declared.fault.Fault.{Fault}
-use Rattle.books.specs.declared.fault.Fault.TheVariants.{WrongSizes, Journal, Row}
+use Rattle.books.proofs.RefusalNumbers.{refusal_told, refused_number}
 use Rattle.books.proofs.Checks.{checked_first, checked_sizes, seen_refused, seen_sound}
-
--- a refusal's number isn't 0
-pub refusal_told : (e : Refused) → number_of e ≡ 0 → ⊥
-refusal_told WrongSize h = omega arith
-refusal_told Damaged h = omega arith
-refusal_told WrongStep h = omega arith
-refusal_told NoJournal h = omega arith
-refusal_told JournalFull h = omega arith
-refusal_told RowsFull h = omega arith
-refusal_told JournalsFull h = omega arith
-refusal_told WrongQuorum h = omega arith
-refusal_told WrongLength h = omega arith
-refusal_told WrongWord h = omega arith
-refusal_told BrokenEntry h = omega arith
-refusal_told WrongAsk h = omega arith
-refusal_told WrongRow h = omega arith
-
--- the number of a fault is that of the refusal that it becomes
-pub refused_number : (f : Fault) → number_of (refused_by f) ≡ (fault_at f).number
-refused_number WrongSizes = refl
-refused_number (Journal r) = refl
-refused_number (Row r b) = refl
 
 module _ (jb rb : List ℕ) where
   -- a fault that the check tells: its refusal's number is the check's

@@ -1,6 +1,7 @@
 pub mod TableCounts
 pub mod Counts
 pub mod Refusals
+pub mod RefusalNumbers
 pub mod OneOutcome
 pub mod NegatedTests
 pub mod BookSizes

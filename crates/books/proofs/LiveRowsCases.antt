@@ -18,7 +18,8 @@ use Rattle.books.specs.Numbers.{first, done}
 use Rattle.books.specs.LiveRows.{LiveRows}
 use Rattle.books.specs.declared.fault.Fault.{Fault}
 use Rattle.books.proofs.Checks.{parts_of}
-use Rattle.books.proofs.Faults.{refusal_told, fault_refused, none_refused}
+use Rattle.books.proofs.RefusalNumbers.{refusal_told}
+use Rattle.books.proofs.Faults.{fault_refused, none_refused}
 use Rattle.books.proofs.Refusals.{pass, refused, told_most}
 
 -- a number and a number of rows, as the code answers them

@@ -1,9 +1,8 @@
 -- No second outcome fits: a promise is an equation between what a call answers and leaves and a function of what it was
 -- given, so two outcomes that keep it are equal. Assumes nothing.
-use Rattle.std.specs.Prelude.{◌≡◌, ℕ, List, false, cond, eqb, Result, Ok, Err, refl}
+use Rattle.std.specs.Prelude.{◌≡◌, ℕ, List, cond, eqb, Result, Ok, Err, refl}
 use Rattle.std.proofs.Common.{sym, ◌∙◌, ap}
-use Rattle.std.proofs.lemmas.Bool.{false≢true}
-use Rattle.books.specs.Answers.{number_of, number_in, counted_in, open_journals_in, live_rows_in, fault_at, checked_in}
+use Rattle.books.specs.Answers.{number_of, number_in, counted_in, open_journals_in, live_rows_in, fault_at, checked_in, refused_by}
 use Rattle.books.specs.Numbers.{done, damaged, wrong_step, no_journal, journal_full, rows_full, journals_full, wrong_quorum, wrong_length, wrong_word, broken_entry, wrong_ask, wrong_row}
 use Rattle.books.specs.declared.refused.Refused.{Refused}
 use Rattle.books.specs.declared.refused.Refused.TheVariants.{WrongSize, Damaged, WrongStep, NoJournal, JournalFull, RowsFull, JournalsFull, WrongQuorum, WrongLength, WrongWord, BrokenEntry, WrongAsk, WrongRow}
@@ -19,6 +18,7 @@ use Rattle.books.specs.OpenJournals.{OpenJournals, open_journals_call}
 use Rattle.books.specs.Rebuild.{rebuild_call}
 use Rattle.books.specs.RowRecord.{row_record_call, row_record_number_call}
 use Rattle.books.specs.TableCount.{Counted, table_count_call}
+use Rattle.books.proofs.RefusalNumbers.{refusal_told, refused_number}
 
 -- two outcomes that keep the promise are equal
 abbrev pub OneOutcome : {A : Type 0} → A → Type 0
@@ -87,50 +87,31 @@ refused_back BrokenEntry = refl
 refused_back WrongAsk = refl
 refused_back WrongRow = refl
 
--- a refusal's number isn't 0
-number_of_refused : (e : Refused) → eqb (number_of e) done ≡ false
-number_of_refused WrongSize = refl
-number_of_refused Damaged = refl
-number_of_refused WrongStep = refl
-number_of_refused NoJournal = refl
-number_of_refused JournalFull = refl
-number_of_refused RowsFull = refl
-number_of_refused JournalsFull = refl
-number_of_refused WrongQuorum = refl
-number_of_refused WrongLength = refl
-number_of_refused WrongWord = refl
-number_of_refused BrokenEntry = refl
-number_of_refused WrongAsk = refl
-number_of_refused WrongRow = refl
-
-not_done : (e : Refused) → done ≡ number_of e → ⊥
-not_done e h = false≢true (sym (number_of_refused e) ∙ ap (λ n. eqb n done) (sym h))
-
 pub number_of_one : (e f : Refused) → number_of e ≡ number_of f → e ≡ f
 number_of_one e f h = sym (refused_back e) ∙ ap refused_at h ∙ refused_back f
 
 pub number_in_one : (r s : Result (Unit {0}) Refused) → number_in r ≡ number_in s → r ≡ s
 number_in_one (Ok x) (Ok y) h = refl
-number_in_one (Ok x) (Err f) h = absurd (not_done f h)
-number_in_one (Err e) (Ok y) h = absurd (not_done e (sym h))
+number_in_one (Ok x) (Err f) h = absurd (refusal_told f (sym h))
+number_in_one (Err e) (Ok y) h = absurd (refusal_told e h)
 number_in_one (Err e) (Err f) h = ap Err (number_of_one e f h)
 
 pub counted_in_one : (r s : Result ℕ Refused) → counted_in r ≡ counted_in s → r ≡ s
 counted_in_one (Ok c) (Ok d) h = ap Ok (ap (λ (c : Counted). c.count) h)
-counted_in_one (Ok c) (Err f) h = absurd (not_done f (ap (λ (c : Counted). c.number) h))
-counted_in_one (Err e) (Ok d) h = absurd (not_done e (sym (ap (λ (c : Counted). c.number) h)))
+counted_in_one (Ok c) (Err f) h = absurd (refusal_told f (sym (ap (λ (c : Counted). c.number) h)))
+counted_in_one (Err e) (Ok d) h = absurd (refusal_told e (ap (λ (c : Counted). c.number) h))
 counted_in_one (Err e) (Err f) h = ap Err (number_of_one e f (ap (λ (c : Counted). c.number) h))
 
 pub open_journals_in_one : (r s : Result ℕ Refused) → open_journals_in r ≡ open_journals_in s → r ≡ s
 open_journals_in_one (Ok c) (Ok d) h = ap Ok (ap (λ (o : OpenJournals). o.journals) h)
-open_journals_in_one (Ok c) (Err f) h = absurd (not_done f (ap (λ (o : OpenJournals). o.number) h))
-open_journals_in_one (Err e) (Ok d) h = absurd (not_done e (sym (ap (λ (o : OpenJournals). o.number) h)))
+open_journals_in_one (Ok c) (Err f) h = absurd (refusal_told f (sym (ap (λ (o : OpenJournals). o.number) h)))
+open_journals_in_one (Err e) (Ok d) h = absurd (refusal_told e (ap (λ (o : OpenJournals). o.number) h))
 open_journals_in_one (Err e) (Err f) h = ap Err (number_of_one e f (ap (λ (o : OpenJournals). o.number) h))
 
 pub live_rows_in_one : (r s : Result ℕ Refused) → live_rows_in r ≡ live_rows_in s → r ≡ s
 live_rows_in_one (Ok c) (Ok d) h = ap Ok (ap (λ (l : LiveRows). l.rows) h)
-live_rows_in_one (Ok c) (Err f) h = absurd (not_done f (ap (λ (l : LiveRows). l.number) h))
-live_rows_in_one (Err e) (Ok d) h = absurd (not_done e (sym (ap (λ (l : LiveRows). l.number) h)))
+live_rows_in_one (Ok c) (Err f) h = absurd (refusal_told f (sym (ap (λ (l : LiveRows). l.number) h)))
+live_rows_in_one (Err e) (Ok d) h = absurd (refusal_told e (ap (λ (l : LiveRows). l.number) h))
 live_rows_in_one (Err e) (Err f) h = ap Err (number_of_one e f (ap (λ (l : LiveRows). l.number) h))
 
 -- the fault that is at a place
@@ -143,13 +124,9 @@ fault_back WrongSizes = refl
 fault_back (Journal r) = refl
 fault_back (Row r b) = refl
 
-fault_not_done : (f : Fault) → eqb (fault_at f).number done ≡ false
-fault_not_done WrongSizes = refl
-fault_not_done (Journal r) = refl
-fault_not_done (Row r b) = refl
-
+-- and no fault has the number 0
 fault_told : (f : Fault) → checked done 0 0 0 ≡ fault_at f → ⊥
-fault_told f h = false≢true (sym (fault_not_done f) ∙ ap (λ (c : Checked). eqb c.number done) (sym h))
+fault_told f h = refusal_told (refused_by f) (refused_number f ∙ ap (λ (c : Checked). c.number) (sym h))
 
 pub checked_in_one : (r s : Result (Unit {0}) Fault) → checked_in r ≡ checked_in s → r ≡ s
 checked_in_one (Ok x) (Ok y) h = refl

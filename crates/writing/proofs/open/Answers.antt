@@ -5,7 +5,7 @@ use Rattle.std.proofs.lemmas.Result.{err_from_is_err_and}
 use Rattle.words.specs.Journals.{opened}
 use Rattle.records.specs.JournalBook.{journals_of}
 use Rattle.records.proofs.Sound.{books_sizes}
-use Rattle.books.proofs.Faults.{refusal_told}
+use Rattle.books.proofs.RefusalNumbers.{refusal_told}
 use Rattle.books.proofs.WriteCases.{scratch_form, scratch_written}
 use Rattle.books.proofs.OpenCases.{can_open, open_refused, open_written}
 use borrow.Author.Rules.{rules}

@@ -9,9 +9,6 @@ use Rattle.writing.proofs.rebuild.Goals as goal
 pub returns-then-not-right_sizes : goal.returns-then-not-right_sizes
 returns-then-not-right_sizes c = rebuild_size _ _ (sym c.right_sizes.ensures ∙ c.if-not-right_sizes.true)
 
-pub first_wrong_record-wrong-requires : goal.first_wrong_record-wrong-requires
-first_wrong_record-wrong-requires c = (both_sized c.args.journals.now c.args.rows.now (sym c.right_sizes.ensures ∙ c.if-not-right_sizes.false)).0
-
 pub returns-then-wrong-ne-JOURNALS : goal.returns-then-wrong-ne-JOURNALS
 returns-then-wrong-ne-JOURNALS c =
     let jb = c.args.journals.now in

@@ -10,9 +10,6 @@ use Rattle.checking.proofs.seen.see.Goals as goal
 pub returns-then-not-right_sizes-clause-says : goal.returns-then-not-right_sizes-clause-says
 returns-then-not-right_sizes-clause-says c = sym (check_size _ _ (sym c.right_sizes.ensures ∙ c.if-not-right_sizes.true))
 
-pub first_wrong_record-wrong-requires : goal.first_wrong_record-wrong-requires
-first_wrong_record-wrong-requires c = (both_sized c.args.journals.now c.args.rows.now (sym c.right_sizes.ensures ∙ c.if-not-right_sizes.false)).0
-
 pub returns-then-wrong-ne-JOURNALS-clause-says : goal.returns-then-wrong-ne-JOURNALS-clause-says
 returns-then-wrong-ne-JOURNALS-clause-says c =
     let jb = c.args.journals.now in

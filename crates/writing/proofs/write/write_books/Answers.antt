@@ -10,12 +10,9 @@ use Rattle.books.specs.Numbers.{done}
 use Rattle.books.specs.Clear.{after}
 use Rattle.books.proofs.BookSizes.{both_sized}
 use Rattle.books.proofs.Refusals.{refused}
-use Rattle.books.proofs.Faults.{refusal_told}
+use Rattle.books.proofs.RefusalNumbers.{refusal_told}
 use Rattle.books.proofs.WriteCases.{write_refused, write_done}
 use Rattle.writing.proofs.write.write_books.Goals as goal
-
-pub write_rows-requires : goal.write_rows-requires
-write_rows-requires c = (c.requires.0, (both_sized c.args.journals.now c.args.rows.now c.requires.1).1)
 
 pub returns-in_err-write_rows : goal.returns-in_err-write_rows
 returns-in_err-write_rows c =
