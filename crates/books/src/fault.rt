@@ -1,7 +1,8 @@
 // Where the books are wrong, as the check tells it.
 
 ghost use Rattle.std.specs.Prelude.{◌≡◌};
-ghost use Rattle.books.specs.Answers.{refused_by};
+ghost use Rattle.books.specs.Answers.{number_of, fault_at, refused_by};
+ghost use Rattle.books.specs.Check.{checked};
 
 use crate::refused::Refused;
 
@@ -14,6 +15,19 @@ pub enum Fault {
     // The first row of the row book that differs from the picture, and the first byte in it that does. Journals with too many live
     // states have no picture: the record behind the last row is named then, at byte 0.
     Row(usize, usize),
+}
+
+impl Fault {
+    // The book, the record in it and the byte in that; zeros where the sizes are wrong.
+    pub fn place(self) -> (u8, usize, usize)
+        ensures { checked (number_of (refused_by self)) result.0 result.1 result.2 ≡ fault_at self }
+    {
+        match self {
+            Fault::WrongSizes => (0, 0, 0),
+            Fault::Journal(record) => (1, record, 0),
+            Fault::Row(row, byte) => (2, row, byte),
+        }
+    }
 }
 
 impl From<Fault> for Refused {

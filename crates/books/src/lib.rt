@@ -6,4 +6,4 @@ mod fault;
 mod refused;
 
 pub use fault::Fault;
-pub use refused::Refused;
+pub use refused::{Refused, number_in};

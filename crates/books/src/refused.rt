@@ -1,7 +1,7 @@
 // What a call is refused with: one name for each number of document 01 but 0, which is said by an `Ok`.
 
 ghost use Rattle.std.specs.Prelude.{◌≡◌};
-ghost use Rattle.books.specs.Answers.{number_of};
+ghost use Rattle.books.specs.Answers.{number_of, number_in};
 
 #[derive(Clone, Copy, Debug, PartialEq, Eq)]
 pub enum Refused {
@@ -38,5 +38,15 @@ impl From<Refused> for u8 {
 
     fn from(refused: Refused) -> u8 {
         refused as u8
+    }
+}
+
+// The number of document 01 for an answer: 0 where the call is done, whatever else it answers.
+pub fn number_in<T>(answer: &Result<T, Refused>) -> u8
+    ensures { result ≡ number_in answer.now }
+{
+    match answer {
+        Ok(_) => 0,
+        Err(refused) => u8::from(*refused),
     }
 }

@@ -9,22 +9,22 @@ use Rattle.books.proofs.JournalCountCases.{form_by, form_not, journals_size, rec
 use Rattle.reading.proofs.journal_count.Goals as goal
 
 pub returns-then-journals-ne-JOURNAL_BOOK : goal.returns-then-journals-ne-JOURNAL_BOOK
-returns-then-journals-ne-JOURNAL_BOOK c = c.refused.ensures ∙ sym (journals_size _ _ c.if-journals-ne-JOURNAL_BOOK.true)
+returns-then-journals-ne-JOURNAL_BOOK c = sym (journals_size _ _ c.if-journals-ne-JOURNAL_BOOK.true)
 
 pub returns-then-word_record-ne-WORD_RECORD : goal.returns-then-word_record-ne-WORD_RECORD
-returns-then-word_record-ne-WORD_RECORD c = c.refused-then-word_record-ne-WORD_RECORD.ensures ∙ sym (record_size _ _ c.if-journals-ne-JOURNAL_BOOK.false c.if-word_record-ne-WORD_RECORD.true)
+returns-then-word_record-ne-WORD_RECORD c = sym (record_size _ _ c.if-journals-ne-JOURNAL_BOOK.false c.if-word_record-ne-WORD_RECORD.true)
 
 pub returns-then-not-steps_form : goal.returns-then-not-steps_form
 returns-then-not-steps_form c =
     let wrong = sym c.steps_form.ensures ∙ c.if-not-steps_form.true in
-    c.refused-then-not-steps_form.ensures ∙ sym (word_wrong _ _ c.if-journals-ne-JOURNAL_BOOK.false c.if-word_record-ne-WORD_RECORD.false wrong)
+    sym (word_wrong _ _ c.if-journals-ne-JOURNAL_BOOK.false c.if-word_record-ne-WORD_RECORD.false wrong)
 
 pub returns-then-first_wrong_record-ne-JOURNALS : goal.returns-then-first_wrong_record-ne-JOURNALS
 returns-then-first_wrong_record-ne-JOURNALS c =
     let size = c.if-journals-ne-JOURNAL_BOOK.false in
     let worded = sym c.steps_form.ensures ∙ c.if-not-steps_form.false in
     let wrong = form_not c.args.journals.now size (λ e. c.if-first_wrong_record-ne-JOURNALS.true (c.first_wrong_record.ensures ∙ e)) in
-    c.refused-then-first_wrong_record-ne-JOURNALS.ensures ∙ sym (book_wrong _ _ size c.if-word_record-ne-WORD_RECORD.false worded wrong)
+    sym (book_wrong _ _ size c.if-word_record-ne-WORD_RECORD.false worded wrong)
 
 pub count_in-requires : goal.count_in-requires
 count_in-requires c =
@@ -38,4 +38,4 @@ returns c =
     let right = form_by jb size (sym c.first_wrong_record.ensures ∙ c.if-first_wrong_record-ne-JOURNALS.false) in
     let worded = sym c.steps_form.ensures ∙ c.if-not-steps_form.false in
     let law = word_counted jb r size c.if-word_record-ne-WORD_RECORD.false worded right in
-    c.done.ensures ∙ ap (counted done) (c.count_in.ensures ∙ ap (count (journals_of jb)) (word_part r)) ∙ sym law
+    ap (counted done) (c.count_in.ensures ∙ ap (count (journals_of jb)) (word_part r)) ∙ sym law
