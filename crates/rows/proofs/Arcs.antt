@@ -6,6 +6,7 @@ use native.Mathlib.Omega.{arith}
 use mathlib.Core.Path.{◌≡◌, sym, ◌∙◌}
 use mathlib.Core.Bool.{true, false, false≢true}
 use mathlib.Core.List.{List, [], ◌∷◌}
+use Rattle.std.specs.Prelude.{Some, None, Ok}
 use lib.ListN.{length, get_or, drop, drop_of_length-le}
 use lib.Dec.{eqb, ltb, leb}
 use borrow.Author.Tests.{lt-ltb, le-ltb, le-leb, lt-leb, eq-eqb, ne_eqb, leb-false}
@@ -13,9 +14,7 @@ use Rattle.words.specs.Limits.{most_journals}
 use Rattle.words.proofs.Test.{test}
 use Rattle.records.specs.Sizes.{most_rows}
 use Rattle.records.specs.RowBook.{count_at, arc_at}
-use Rattle.rows.specs.Walk.{bad_arc, along, walk_from, walk}
-use Rattle.rows.specs.declared.walk.Walked.{Walked}
-use Rattle.rows.specs.declared.walk.Walked.TheVariants.{Row, Nowhere, Damage}
+use Rattle.rows.specs.Walk.{Walked, damage, bad_arc, along, walk_from, walk}
 use Rattle.rows.proofs.Steps.{step_rest}
 
 -- when an arc is bad
@@ -39,11 +38,11 @@ module _ (b : List ℕ) (r t : ℕ) where
 
 -- how an arc is taken
 module _ (b : List ℕ) (r t : ℕ) (rest : Walked) where
-  pub along_zero : t ≡ 0 → along b r t rest ≡ Nowhere
+  pub along_zero : t ≡ 0 → along b r t rest ≡ Ok None
   unfolding along
   along_zero e = rw e
 
-  pub along_bad : (t ≡ 0 → ⊥) → bad_arc b r t ≡ true → along b r t rest ≡ Damage
+  pub along_bad : (t ≡ 0 → ⊥) → bad_arc b r t ≡ true → along b r t rest ≡ damage
   unfolding along
   along_bad n y = rw (ne_eqb t 0 n, y)
 
@@ -57,17 +56,17 @@ pub from_on_lem : (b w : List ℕ) (q r i t : ℕ) → i < length w → walk_fro
 unfolding walk_from
 from_on_lem b w q r i t h e g = e ∙ rw (step_rest w i h, g)
 
-pub from_end : (b w : List ℕ) (r i : ℕ) → length w ≤ i → walk_from b r (drop i w) ≡ Row r
+pub from_end : (b w : List ℕ) (r i : ℕ) → length w ≤ i → walk_from b r (drop i w) ≡ Ok (Some r)
 unfolding walk_from
 from_end b w r i h = rw (drop_of_length-le w h)
 
 -- how a walk starts
 module _ (b w : List ℕ) where
-  pub start_many : most_journals < count_at b 0 → walk b w ≡ Damage
+  pub start_many : most_journals < count_at b 0 → walk b w ≡ damage
   unfolding walk
   start_many h = rw (lt-ltb most_journals (count_at b 0) h)
 
-  pub start_none : count_at b 0 ≡ 0 → walk b w ≡ Nowhere
+  pub start_none : count_at b 0 ≡ 0 → walk b w ≡ Ok None
   unfolding walk
   start_none e = rw e
 
@@ -75,26 +74,20 @@ module _ (b w : List ℕ) where
   unfolding walk
   start_row h n = rw (le-ltb most_journals (count_at b 0) h, ne_eqb (count_at b 0) 0 n)
 
-not_none : {q : ℕ} → Nowhere ≡ Row q → ⊥
-not_none z = let o : ◌≡◌ {A = ℕ} 0 1 = cc in omega arith
-
-not_damage : {q : ℕ} → Damage ≡ Row q → ⊥
-not_damage z = let o : ◌≡◌ {A = ℕ} 0 1 = cc in omega arith
-
 -- a walk that ends in a row ends in one of the book
-along_row : (b : List ℕ) (r t q : ℕ) (rest : Walked) → along b r t rest ≡ Row q → (t < most_rows) × (rest ≡ Row q)
+along_row : (b : List ℕ) (r t q : ℕ) (rest : Walked) → along b r t rest ≡ Ok (Some q) → (t < most_rows) × (rest ≡ Ok (Some q))
 unfolding along
 along_row b r t q rest e =
-    test (eqb t 0) (λ y. absurd (not_none (rw y at e)))
-    (λ n. test (bad_arc b r t) (λ y. absurd (not_damage (rw (n, y) at e))) (λ m. (good_row b r t m, rw (n, m) at e)))
+    test (eqb t 0) (λ y. let z = rw y at e in cc)
+    (λ n. test (bad_arc b r t) (λ y. let z = rw (n, y) at e in cc) (λ m. (good_row b r t m, rw (n, m) at e)))
 
-from_row : (b : List ℕ) (r : ℕ) (w : List ℕ) (q : ℕ) → r < most_rows → walk_from b r w ≡ Row q → q < most_rows
+from_row : (b : List ℕ) (r : ℕ) (w : List ℕ) (q : ℕ) → r < most_rows → walk_from b r w ≡ Ok (Some q) → q < most_rows
 unfolding walk_from
 from_row b r [] q h e = let f : r ≡ q = cc in omega arith
 from_row b r (s ∷ w) q h e = let n = along_row b r (arc_at b r s) q _ e in from_row b (arc_at b r s) w q n.0 n.1
 
-pub walk_row : (b w : List ℕ) (q : ℕ) → walk b w ≡ Row q → q < most_rows
+pub walk_row : (b w : List ℕ) (q : ℕ) → walk b w ≡ Ok (Some q) → q < most_rows
 unfolding walk
 walk_row b w q e =
-    test (ltb most_journals (count_at b 0)) (λ y. absurd (not_damage (rw y at e)))
-    (λ n. test (eqb (count_at b 0) 0) (λ y. absurd (not_none (rw (n, y) at e))) (λ m. from_row b 0 w q (omega arith) (rw (n, m) at e)))
+    test (ltb most_journals (count_at b 0)) (λ y. let z = rw y at e in cc)
+    (λ n. test (eqb (count_at b 0) 0) (λ y. let z = rw (n, y) at e in cc) (λ m. from_row b 0 w q (omega arith) (rw (n, m) at e)))

@@ -1,4 +1,3 @@
 pub mod Steps
 pub mod Arcs
 pub mod Alike
-pub mod Pastes
