@@ -1,5 +1,5 @@
 -- Table count: what is read at the end of a walk along the arcs of a row book. Assumes nothing.
-use Rattle.std.specs.Prelude.{ℕ, Bool, true, false, not, List, [], ◌∷◌, length, eqb, Some, None, Ok, Err}
+use Rattle.std.specs.Prelude.{ℕ, Bool, true, false, not, List, [], ◌∷◌, length, eqb, Some, None, Ok, Err, is_err}
 use Rattle.words.specs.Limits.{step_codes}
 use Rattle.records.specs.Sizes.{row_book_size}
 use Rattle.books.specs.Numbers.{Refusal, first, wrong_size, damaged, wrong_step, unless}
@@ -9,8 +9,7 @@ use Rattle.rows.specs.Walk.{Walked, walk}
 use Rattle.books.specs.declared.Counted.{Counted}
 
 abbrev pub is_damage : Walked → Bool
-is_damage (Ok e) = false
-is_damage (Err d) = true
+is_damage w = is_err w
 
 -- the count byte of the row where the walk ended
 abbrev pub count_of : List ℕ → Walked → ℕ

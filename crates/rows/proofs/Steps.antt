@@ -1,22 +1,15 @@
 -- A word that passes the test of all steps, at an index. Assumes nothing.
-use Prim.Native.Nat.{ℕ, zero, suc, ◌+◌, ◌<◌}
+use Prim.Native.Nat.{ℕ, zero, suc, ◌<◌}
 use native.Mathlib.Omega.{arith}
-use native.Mathlib.Numerals.{add-one}
 use mathlib.Core.Path.{◌≡◌}
 use mathlib.Core.Bool.{true, false≢true}
 use mathlib.Core.List.{List, [], ◌∷◌}
-use lib.ListN.{length, get_or, drop}
-use lib.Seq.{drop-cons}
+use lib.ListN.{get_or}
 use lib.Dec.{ltb}
 use borrow.Author.Tests.{ltb-true}
 use Rattle.words.specs.Limits.{step_codes}
 use Rattle.words.proofs.Test.{test}
 use Rattle.records.specs.Bytes.{all_below}
-
-module _ (w : List ℕ) (i : ℕ) (h : i < length w) where
-  -- what stands from the index on
-  pub step_rest : drop i w ≡ get_or w i 0 ∷ drop (i + 1) w
-  step_rest = rw (add-one, drop-cons w i 0)
 
 -- in a word that passes, each step is a code
 pub step_code : (w : List ℕ) → all_below step_codes w ≡ true → (i : ℕ) → get_or w i 0 < step_codes

@@ -14,7 +14,7 @@ pub struct Spot {
 }
 
 // Walks over the row records, and in each over its bytes, up to the first that differs from the picture; the answer is None where none does.
-#[tactic(auto, using(crate::proofs::Alike::alike_start, crate::proofs::Alike::alike_on, crate::proofs::Alike::alike_stop, crate::proofs::Alike::alike_end))]
+#[tactic(auto, using(crate::proofs::Alike::alike))]
 pub fn first_difference(rows: &[u8; ROW_BOOK], picture: &[u8; ROW_BOOK]) -> Option<Spot>
     ensures { MatchOption result (differ rows.now picture.now ≡ row_book_size) (λ spot. (differ rows.now picture.now ≡ row_record_size * spot.row + spot.byte) × (spot.row < most_rows) × (spot.byte < row_record_size)) }
 {

@@ -26,6 +26,7 @@ fn bad_arc(rows: &[u8; ROW_BOOK], r: usize, t: usize) -> bool
 }
 
 // Where the walk from a row under a word of steps ends: in a row, or in none.
+#[tactic(auto, using(crate::proofs::Arcs::walk_steps), unfolding(crate::specs::Walk::along))]
 fn walk_from(rows: &[u8; ROW_BOOK], row: usize, word: &[u8]) -> Result<Option<usize>, Damaged>
     requires { (row < most_rows) × (all_below step_codes word.now ≡ true) }
     ensures { result ≡ walk_from rows.now row word.now }
