@@ -1,3 +1,4 @@
 pub mod Steps
 pub mod Arcs
 pub mod Alike
+pub mod Written

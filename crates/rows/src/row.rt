@@ -48,6 +48,7 @@ impl Row {
     }
 
     // The row's record.
+    #[tactic(auto, using(crate::proofs::Written::written))]
     pub fn to_bytes(&self) -> [u8; ROW_RECORD]
         ensures { result ≡ record_of_row self.now.places self.now.arcs self.now.count behind_count }
     {

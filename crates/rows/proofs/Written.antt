@@ -1,10 +1,10 @@
-use Rattle.std.proofs.Common.{ℕ, ◌≡◌, ◌<◌, ◌≤◌, ◌+◌, ◌-◌, ◌*◌, ◌/◌, ◌%◌, List, [], ◌∷◌, ◌++◌, length, get_or, take, set, replicate, append_assoc, length-append, length-take, refl, sym, ap, ◌∙◌, arith, rules}
+-- A row's record as it is written: behind the places one arc after the other, in the place of zeros, and last the count. Assumes nothing.
+use Rattle.std.proofs.Common.{ℕ, ◌≡◌, ◌<◌, ◌≤◌, ◌+◌, ◌-◌, ◌*◌, ◌/◌, ◌%◌, List, [], ◌∷◌, ◌++◌, length, get_or, take, set, replicate, append_assoc, length-append, length-take, refl, sym, ap, ◌∙◌, arith}
 use Rattle.std.proofs.lemmas.List.{take_at, drop_at, set_at, drop-replicate, take_more}
 use lib.Seq.{take_all}
 use borrow.Rule.Slice.PartMut.{put_mid}
 use Rattle.records.specs.Bytes.{two_bytes}
 use Rattle.records.specs.RowBook.{record_of_row, behind_count}
-use Rattle.rows.proofs.row.Row.to_bytes.Goals as goal
 
 -- two bytes for each number
 two_length : (ns : List ℕ) → length (two_bytes ns) ≡ 2 * length ns
@@ -24,7 +24,7 @@ module _ (places arcs : List ℕ) (p : length places ≡ 16) (a : length arcs �
   front_length s h = omega (arith, length-append places (two_bytes (take s arcs)), two_length (take s arcs), length-take s arcs)
 
   -- one arc more
-  arc_on : (s : ℕ) (r bytes : List ℕ) → s < 16 → get_or arcs s 0 < 65536 → bytes ≡ get_or arcs s 0 % 256 ∷ get_or arcs s 0 / 256 % 256 ∷ []
+  pub arc_on : (s : ℕ) (r bytes : List ℕ) → s < 16 → get_or arcs s 0 < 65536 → bytes ≡ get_or arcs s 0 % 256 ∷ get_or arcs s 0 / 256 % 256 ∷ []
       → r ≡ places ++ two_bytes (take s arcs) ++ replicate (48 - 2 * s) 0
       → put_mid (16 + 2 * s) (16 + 2 * s + 2 - (16 + 2 * s)) r bytes ≡ places ++ two_bytes (take (s + 1) arcs) ++ replicate (48 - 2 * (s + 1)) 0
   arc_on s r bytes h fits b e =
@@ -37,15 +37,11 @@ module _ (places arcs : List ℕ) (p : length places ≡ 16) (a : length arcs �
       ∙ rw (high, left, append_assoc places (two_bytes (take s arcs)) (x % 256 ∷ x / 256 ∷ []), take_more arcs s 0 here, two_append (take s arcs) x))
 
   -- all of them, and the count
-  count_on : (s count : ℕ) (r : List ℕ) → 16 ≤ s → s ≤ 16 → r ≡ places ++ two_bytes (take s arcs) ++ replicate (48 - 2 * s) 0 → set r 48 count ≡ record_of_row places arcs count behind_count
+  pub count_on : (s count : ℕ) (r : List ℕ) → 16 ≤ s → s ≤ 16 → r ≡ places ++ two_bytes (take s arcs) ++ replicate (48 - 2 * s) 0 → set r 48 count ≡ record_of_row places arcs count behind_count
   unfolding record_of_row
   count_on s count r h l e =
       let all : s ≡ 16 = omega arith in
       let whole : take 16 arcs ≡ arcs = take_all 16 arcs (omega arith) in
       rw (e, all) (set_at (places ++ two_bytes (take 16 arcs)) 0 behind_count count 48 (front_length 16 (omega arith)) ∙ rw whole)
 
-pub loop-s-preserved : goal.loop-s-preserved
-loop-s-preserved c = arc_on c.args.self.now.places c.args.self.now.arcs (search rules) (search rules) c.loop-s.s c.loop-s.record _ c.loop-s-test.true (search rules) (c.copy_from_slice-in-loop-s.ensures.after ∙ c.to_le_bytes.ensures) c.loop-s.invariant
-
-pub returns : goal.returns
-returns c = count_on c.args.self.now.places c.args.self.now.arcs (search rules) (search rules) c.loop-s.s c.args.self.now.count c.loop-s.record c.loop-s-test.false (search rules) c.loop-s.invariant
+pub ruleset written = (arc_on, count_on)
