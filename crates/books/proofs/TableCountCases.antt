@@ -14,8 +14,8 @@ use Rattle.records.specs.Sizes.{row_book_size, most_rows}
 use Rattle.records.specs.Bytes.{all_below}
 use Rattle.records.specs.RowBook.{count_at, arc_at}
 use Rattle.books.specs.Numbers.{first, done, wrong_size, wrong_step, damaged}
-use Rattle.rows.specs.Walk.{bad_arc, along, walk_from, walk}
-use Rattle.rows.specs.declared.walk.Walked.TheVariants.{Row, Nowhere, Damage}
+use Rattle.std.specs.Prelude.{Some, None, Ok}
+use Rattle.rows.specs.Walk.{damage, bad_arc, along, walk_from, walk}
 use Rattle.books.specs.TableCount.{count_of, table_count_refusals, counted, table_count_call}
 use Rattle.books.specs.TableCount.{Counted}
 use Rattle.books.proofs.Refusals.{neither, told_most}
@@ -36,15 +36,15 @@ module _ (b w : List ℕ) where
     count_step f = rw (eq-eqb (length b) row_book_size size, f)
 
     module _ (codes : all_below step_codes w ≡ true) where
-      pub count_row : (r : ℕ) → walk b w ≡ Row r → table_count_call b w ≡ counted done (count_at b r)
+      pub count_row : (r : ℕ) → walk b w ≡ Ok (Some r) → table_count_call b w ≡ counted done (count_at b r)
       unfolding table_count_call
       count_row r e = rw (eq-eqb (length b) row_book_size size, codes, e)
 
-      pub count_none : walk b w ≡ Nowhere → table_count_call b w ≡ counted done 0
+      pub count_none : walk b w ≡ Ok None → table_count_call b w ≡ counted done 0
       unfolding table_count_call
       count_none e = rw (eq-eqb (length b) row_book_size size, codes, e)
 
-      pub count_damage : walk b w ≡ Damage → table_count_call b w ≡ counted damaged 0
+      pub count_damage : walk b w ≡ damage → table_count_call b w ≡ counted damaged 0
       unfolding table_count_call
       count_damage e = rw (eq-eqb (length b) row_book_size size, codes, e)
 

@@ -8,9 +8,8 @@ use mathlib.Core.List.{List, [], ◌∷◌, ◌++◌, append-nil, Memᴰ}
 use lib.ListN.{length}
 use lib.Seq.{append_snoc}
 use borrow.Author.Tests.{eq-eqb, ne_eqb, lt-leb, le-ltb}
-use Rattle.rows.specs.Walk.{along, walk_from, walk}
-use Rattle.rows.specs.declared.walk.Walked.{Walked}
-use Rattle.rows.specs.declared.walk.Walked.TheVariants.{Row, Nowhere}
+use Rattle.std.specs.Prelude.{Some, None, Ok}
+use Rattle.rows.specs.Walk.{Walked, along, walk_from, walk}
 use Rattle.books.specs.TableCount.{counted, table_count_call}
 use Rattle.records.specs.RowBook.{row_book, count_at}
 use Rattle.words.specs.Picture.{row_of, picture}
@@ -32,7 +31,7 @@ along_on b r t rest h k l m =
 
 -- where a walk to the state a ends: at its row, if it is live
 abbrev ending : List (List ℕ) → List ℕ → Walked
-ending js a = cond (live a) (Row (row_of a 0 (picture js))) Nowhere
+ending js a = cond (live a) (Ok (Some (row_of a 0 (picture js)))) (Ok None)
 
 module _ (js : List (List ℕ)) (h : Short js) (few : length js ≤ 16) (fits : length (picture js) ≤ 1000) where
   -- the arc of a row to a live state is taken
@@ -76,11 +75,11 @@ module _ (js : List (List ℕ)) (are : AreJournals js) (fits : length (picture j
   brief = short js are.each
 
   -- the walk along a word that is live ends at the row of its state
-  pub walk_ends : live (state js w) ≡ true → walk (row_book js) w ≡ Row (row_of (state js w) 0 (picture js))
+  pub walk_ends : live (state js w) ≡ true → walk (row_book js) w ≡ Ok (Some (row_of (state js w) 0 (picture js)))
   walk_ends t = rw t at (ends js brief are.few fits w k)
 
   -- the walk along any other word ends in no row
-  pub walk_stops : live (state js w) ≡ false → walk (row_book js) w ≡ Nowhere
+  pub walk_stops : live (state js w) ≡ false → walk (row_book js) w ≡ Ok None
   walk_stops f = rw f at (ends js brief are.few fits w k)
 
   -- on the book of the journals the table count is the word's count

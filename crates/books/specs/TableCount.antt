@@ -1,24 +1,20 @@
 -- Table count: what is read at the end of a walk along the arcs of a row book. Assumes nothing.
-use Rattle.std.specs.Prelude.{ℕ, Bool, true, false, not, List, [], ◌∷◌, length, eqb}
+use Rattle.std.specs.Prelude.{ℕ, Bool, true, false, not, List, [], ◌∷◌, length, eqb, Some, None, Ok, Err, is_err}
 use Rattle.words.specs.Limits.{step_codes}
 use Rattle.records.specs.Sizes.{row_book_size}
 use Rattle.books.specs.Numbers.{Refusal, first, wrong_size, damaged, wrong_step, unless}
 use Rattle.records.specs.Bytes.{all_below}
 use Rattle.records.specs.RowBook.{count_at}
-use Rattle.rows.specs.Walk.{walk}
-use Rattle.rows.specs.declared.walk.Walked.{Walked}
-use Rattle.rows.specs.declared.walk.Walked.TheVariants.{Row, Nowhere, Damage}
+use Rattle.rows.specs.Walk.{Walked, walk}
 
 abbrev pub is_damage : Walked → Bool
-is_damage (Row r) = false
-is_damage Nowhere = false
-is_damage Damage = true
+is_damage w = is_err w
 
 -- the count byte of the row where the walk ended
 abbrev pub count_of : List ℕ → Walked → ℕ
-count_of b (Row r) = count_at b r
-count_of b Nowhere = 0
-count_of b Damage = 0
+count_of b (Ok (Some r)) = count_at b r
+count_of b (Ok None) = 0
+count_of b (Err d) = 0
 
 -- Table count: 1, 3, 2. All steps are tested first.
 abbrev pub table_count_refusals : List ℕ → List ℕ → List Refusal

@@ -37,3 +37,5 @@ module _ (a b : List ℕ) where
   alike_end k h u =
       let z : differ (drop k a) (drop k b) ≡ 0 = rw (drop_of_length-le a {i = k} h) in
       omega arith
+
+pub ruleset alike = (alike_start, alike_on, alike_stop, alike_end)

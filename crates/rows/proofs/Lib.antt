@@ -1,4 +1,4 @@
 pub mod Steps
 pub mod Arcs
 pub mod Alike
-pub mod Pastes
+pub mod Written

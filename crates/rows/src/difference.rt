@@ -1,39 +1,32 @@
 // Where two row books first differ.
 
-ghost use Rattle.std.specs.Prelude.{◌≡◌, ◌+◌, ◌*◌, ◌<◌, length};
-ghost use Rattle.records.specs.Sizes.{row_book_size, row_record_size};
+ghost use Rattle.std.specs.Prelude.{◌≡◌, ◌+◌, ◌*◌, ◌<◌, MatchOption};
+ghost use Rattle.records.specs.Sizes.{row_book_size, row_record_size, most_rows};
 ghost use Rattle.records.specs.Bytes.{differ};
 
-use records::{ROW_RECORD, ROWS};
+use records::{ROW_BOOK, ROW_RECORD, ROWS};
 
 // A row and a byte in it.
-#[derive(Clone, Copy)]
+#[derive(Clone, Copy, PartialEq, Eq, Debug)]
 pub struct Spot {
     pub row: usize,
     pub byte: usize,
 }
 
-// Walks over the row records, and in each over its bytes, up to the first that differs from the picture; to row 1,000 if none does.
-pub fn first_difference(rows: &[u8], picture: &[u8]) -> Spot
-    requires { (length rows.now ≡ row_book_size) × (length picture.now ≡ row_book_size) }
-    ensures { (differ rows.now picture.now ≡ row_record_size * result.row + result.byte) × (result.byte < row_record_size) }
+// Walks over the row records, and in each over its bytes, up to the first that differs from the picture; the answer is None where none does.
+#[tactic(auto, using(crate::proofs::Alike::alike))]
+pub fn first_difference(rows: &[u8; ROW_BOOK], picture: &[u8; ROW_BOOK]) -> Option<Spot>
+    ensures { MatchOption result (differ rows.now picture.now ≡ row_book_size) (λ spot. (differ rows.now picture.now ≡ row_record_size * spot.row + spot.byte) × (spot.row < most_rows) × (spot.byte < row_record_size)) }
 {
-    let mut row = 0;
-    let mut byte = 0;
-    'rows: while row < ROWS {
-        byte = 0;
-        while byte < ROW_RECORD {
-            let at = ROW_RECORD * row + byte;
-            if rows[at] != picture[at] {
-                break 'rows;
+    'rows: {
+        for row in 0..ROWS {
+            for byte in 0..ROW_RECORD {
+                let at = ROW_RECORD * row + byte;
+                if rows[at] != picture[at] {
+                    break 'rows Some(Spot { row, byte });
+                }
             }
-            byte += 1;
         }
-        byte = 0;
-        row += 1;
-    }
-    Spot {
-        row: row,
-        byte: byte,
+        None
     }
 }

@@ -7,5 +7,5 @@ mod row;
 mod walk;
 
 pub use difference::{Spot, first_difference};
-pub use row::{Row, arc_at, count_at, read_row, write_row};
-pub use walk::{Walked, walk_to};
+pub use row::{Row, arc_at, count_at};
+pub use walk::{Damaged, walk_to};
