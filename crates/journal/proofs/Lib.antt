@@ -1,5 +1,4 @@
-pub mod Parts
-pub mod Index
 pub mod Records
 pub mod Journals
+pub mod Found
 pub mod Putting

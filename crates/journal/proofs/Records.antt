@@ -1,67 +1,105 @@
--- The records of a book from record i on: the first of them, and what follows. So the tests and the journals of a book go record by record, as
--- the code does. The number n of the records stays a variable, since a book of sixteen would be written out in every goal. Assumes nothing.
-use Prim.Native.Nat.{ℕ, suc, ◌+◌, ◌-◌, ◌*◌, ◌<◌}
-use native.Mathlib.Omega.{arith}
-use mathlib.Core.Path.{◌≡◌, refl, ap, ap₂, ◌∙◌}
-use mathlib.Core.Bool.{Bool, true, false, not, ◌&&◌, ◌||◌}
-use mathlib.Core.List.{List, [], ◌∷◌}
-use lib.ListN.{length, drop, get_or}
-use lib.Seq.{drop-drop, get_or-take, get_or-drop}
-use lib.Dec.{eqb}
-use borrow.Author.Tests.{eq-eqb, ne_eqb}
+-- The records of a book: they are its parts of 256 bytes, the first wrong of them is the book's, and those that are open hold its journals. By
+-- induction over the records. Assumes nothing.
+use Rattle.std.proofs.Common.{◌≡◌, ◌≢◌, ℕ, zero, suc, ◌+◌, ◌*◌, ◌/◌, ◌≤◌, ◌<◌, Bool, true, false, cond, List, [], ◌∷◌, length, take, drop, get_or, length-take, length-drop, nat_eq, refl, ne_eqb, eq-eqb, add-one, Option, Some, None, MatchOption, unwrap_or, sym, ap, ◌∙◌, arith}
+use Rattle.std.proofs.Math.Seq.{drop-cons}
+use Rattle.std.proofs.Math.ListN.{drop_of_length-le}
+use Rattle.std.specs.Simd.{first_chunks}
+use Rattle.words.proofs.Test.{test}
 use Rattle.records.specs.Bytes.{records}
-use Rattle.records.specs.JournalBook.{record_at, is_open, record_form, wrong_record, first_wrong, first_wrong_record, open_ones, journals_of}
+use Rattle.records.specs.StepBytes.{steps_of}
+use Rattle.records.specs.JournalBook.{is_open, wrong_record, first_wrong, first_wrong_record, journal_form, open_ones, journals_of}
+use Rattle.records.proofs.Tests.{both}
+use Rattle.journal.specs.Records.{records_of}
 
--- the records from record i on, of n
-abbrev pub from : ℕ → List ℕ → ℕ → List (List ℕ)
-from n b i = records 256 (n - i) (drop (256 * i) b)
+-- the parts of m bytes
+chunks : (m n : ℕ) (b : List ℕ) → first_chunks m n b ≡ records m n b
+chunks m zero b = refl
+chunks m (suc n) b = ap (λ (rs : List (List ℕ)). take m b ∷ rs) (chunks m n (drop m b))
 
--- whether record i is open, read off the book
-pub open_byte : (b : List ℕ) (i : ℕ) → is_open (record_at b i) ≡ eqb (get_or b (256 * i) 0) 1
-open_byte b i =
-    let e : 256 * i + 0 ≡ 256 * i = omega arith in
-    ap (λ (x : ℕ). eqb x 1) (get_or-take 256 (drop (256 * i) b) 0 0 (omega arith) ∙ get_or-drop (256 * i) b 0 0 ∙ ap (λ (k : ℕ). get_or b k 0) e)
+pub parts : (b : List ℕ) → length b ≡ 4096 → first_chunks 256 (length b / 256) b ≡ records_of b
+unfolding records_of
+parts b l = rw l (chunks 256 16 b)
 
-module _ (n : ℕ) (b : List ℕ) (i : ℕ) (h : i < n) where
-  from_next : from n b i ≡ record_at b i ∷ from n b (i + 1)
-  from_next =
-      let e : n - i ≡ suc (n - (i + 1)) = omega arith in
-      let d : 256 * i + 256 ≡ 256 * (i + 1) = omega arith in
-      ap (λ (k : ℕ). records 256 k (drop (256 * i) b)) e
-      ∙ ap (λ (c : List ℕ). record_at b i ∷ records 256 (n - (i + 1)) c) (drop-drop 256 (256 * i) b ∙ ap (λ (k : ℕ). drop k b) d)
+-- their number
+number : (m n : ℕ) (b : List ℕ) → length (records m n b) ≡ n
+number m zero b = refl
+number m (suc n) b = ap suc (number m n (drop m b))
 
-  pub wrong_here : (o : Bool) → wrong_record o (record_at b i) ≡ true → first_wrong o (from n b i) ≡ 0
-  wrong_here o t = ap (first_wrong o) from_next ∙ rw t
+pub sixteen : (b : List ℕ) → length (records_of b) ≡ 16
+unfolding records_of
+sixteen b = number 256 16 b
 
-  pub wrong_next : (o : Bool) → wrong_record o (record_at b i) ≡ false
-      → first_wrong o (from n b i) ≡ suc (first_wrong (eqb (get_or b (256 * i) 0) 1) (from n b (i + 1)))
-  wrong_next o f = ap (first_wrong o) from_next ∙ rw f (ap (λ (p : Bool). suc (first_wrong p (from n b (i + 1)))) (open_byte b i))
+-- each has 256 bytes
+width : (n : ℕ) (b : List ℕ) (i : ℕ) → length b ≡ 256 * n → i < n → length (get_or (records 256 n b) i []) ≡ 256
+width zero b i l h = absurd (omega arith)
+width (suc n) b zero l h = omega (arith, length-take 256 b)
+width (suc n) b (suc i) l h = width n (drop 256 b) i (omega (arith, length-drop 256 b)) (omega arith)
 
-  pub open_stop : (get_or b (256 * i) 0 ≡ 1 → ⊥) → length (open_ones (from n b i)) ≡ 0
-  open_stop k = ap (λ (rs : List (List ℕ)). length (open_ones rs)) from_next ∙ rw (open_byte b i ∙ ne_eqb (get_or b (256 * i) 0) 1 k)
+pub wide : (b : List ℕ) (i : ℕ) → length b ≡ 4096 → i < 16 → length (get_or (records_of b) i []) ≡ 256
+unfolding records_of
+wide b i l h = width 16 b i l h
 
-  pub open_next : get_or b (256 * i) 0 ≡ 1 → length (open_ones (from n b i)) ≡ suc (length (open_ones (from n b (i + 1))))
-  open_next k = ap (λ (rs : List (List ℕ)). length (open_ones rs)) from_next ∙ rw (open_byte b i ∙ eq-eqb (get_or b (256 * i) 0) 1 k)
+-- the first wrong one
+pub wrong_of : (b : List ℕ) → first_wrong_record b ≡ first_wrong true (records_of b)
+unfolding first_wrong_record records_of
+wrong_of b = refl
 
--- behind the last record there is none
-from_end : (n : ℕ) (b : List ℕ) (i : ℕ) → n - i ≡ 0 → from n b i ≡ []
-from_end n b i e = ap (λ (k : ℕ). records 256 k (drop (256 * i) b)) e
+module _ (rs : List (List ℕ)) (o : Bool) (i : ℕ) (h : i < length rs) where
+  pub wrong_here : wrong_record o (get_or rs i []) ≡ true → first_wrong o (drop i rs) ≡ 0
+  wrong_here t = rw (drop-cons rs i []) (rw t)
 
-pub wrong_end : (n : ℕ) (b : List ℕ) (i : ℕ) (o : Bool) → n - i ≡ 0 → first_wrong o (from n b i) ≡ 0
-wrong_end n b i o e = ap (first_wrong o) (from_end n b i e)
+  pub wrong_next : wrong_record o (get_or rs i []) ≡ false → first_wrong o (drop i rs) ≡ suc (first_wrong (is_open (get_or rs i [])) (drop (i + 1) rs))
+  wrong_next f = rw (add-one, drop-cons rs i []) (rw f)
 
-pub open_end : (n : ℕ) (b : List ℕ) (i : ℕ) → n - i ≡ 0 → length (open_ones (from n b i)) ≡ 0
-open_end n b i e = ap (λ (rs : List (List ℕ)). length (open_ones rs)) (from_end n b i e)
+pub wrong_end : (rs : List (List ℕ)) (o : Bool) (i : ℕ) → length rs ≤ i → first_wrong o (drop i rs) ≡ 0
+wrong_end rs o i h = rw (drop_of_length-le rs h)
 
--- whether a record is wrong, by its form and by whether it is open
-pub wrong_by : (o : Bool) (r : List ℕ) {f p : Bool} → record_form r ≡ f → is_open r ≡ p → wrong_record o r ≡ (not f || (p && not o))
-wrong_by o r e d = ap₂ (λ (f p : Bool). not f || (p && not o)) e d
+-- the form, by the first wrong one
+pub form_right : (b : List ℕ) → length b ≡ 4096 → first_wrong_record b ≡ 16 → journal_form b ≡ true
+unfolding journal_form
+form_right b l n = rw (l, n)
 
--- a book is its sixteen records, from record 0 on
-pub wrong_start : (b : List ℕ) → first_wrong_record b ≡ first_wrong true (from 16 b 0)
-unfolding first_wrong_record
-wrong_start b = refl
+pub form_wrong : (b : List ℕ) → length b ≡ 4096 → first_wrong_record b < 16 → journal_form b ≡ false
+unfolding journal_form
+form_wrong b l n = rw (l, ne_eqb (first_wrong_record b) 16 (omega arith))
 
-pub open_start : (b : List ℕ) → length (journals_of b) ≡ length (open_ones (from 16 b 0))
-unfolding journals_of
-open_start b = refl
+-- the open ones
+pub open_of : (b : List ℕ) → journals_of b ≡ open_ones (records_of b)
+unfolding journals_of records_of
+open_of b = refl
+
+-- their number, where each is open, and where record k is the first that isn't
+all_open : (rs : List (List ℕ)) → ((m : ℕ) → m < length rs → get_or (get_or rs m []) 0 0 ≡ 1) → length (open_ones rs) ≡ length rs
+all_open [] a = refl
+all_open (r ∷ rs) a = rw (eq-eqb (get_or r 0 0) 1 (a 0 (omega arith))) (ap suc (all_open rs (λ m l. a (suc m) (omega arith))))
+
+open_till : (rs : List (List ℕ)) (k : ℕ) → k < length rs → get_or (get_or rs k []) 0 0 ≢ 1 → ((m : ℕ) → m < k → get_or (get_or rs m []) 0 0 ≡ 1)
+    → length (open_ones rs) ≡ k
+open_till [] k h n a = absurd (omega arith)
+open_till (r ∷ rs) zero h n a = rw (ne_eqb (get_or r 0 0) 1 n)
+open_till (r ∷ rs) (suc k) h n a =
+    rw (eq-eqb (get_or r 0 0) 1 (a 0 (omega arith))) (ap suc (open_till rs k (omega arith) n (λ m l. a (suc m) (omega arith))))
+
+-- the first that isn't open, if one isn't
+abbrev pub FirstShut : List (List ℕ) → Option ℕ → Type 0
+FirstShut rs o =
+    MatchOption o ((m : ℕ) → m < length rs → get_or (get_or rs m []) 0 0 ≡ 1)
+    (λ k. (k < length rs) × (get_or (get_or rs k []) 0 0 ≢ 1) × ((m : ℕ) → m < k → get_or (get_or rs m []) 0 0 ≡ 1))
+
+pub open_number : (rs : List (List ℕ)) (o : Option ℕ) → FirstShut rs o → length (open_ones rs) ≡ unwrap_or o (length rs)
+open_number rs None a = all_open rs a
+open_number rs (Some k) a = open_till rs k a.0 a.1 a.2
+
+pub open_few : (rs : List (List ℕ)) → length (open_ones rs) ≤ length rs
+open_few [] = omega arith
+open_few (r ∷ rs) = test (is_open r) (λ t. rw t (omega (arith, open_few rs))) (λ f. rw f (omega arith))
+
+-- and what one of them holds
+pub open_at : (rs : List (List ℕ)) (i : ℕ) → i < length (open_ones rs) → get_or (open_ones rs) i [] ≡ steps_of (drop 1 (get_or rs i []))
+open_at [] i h = absurd (omega arith)
+open_at (r ∷ rs) i h = test (is_open r) (λ t. rw t (go (open_at rs) i (rw t at h))) (λ f. absurd (omega (arith, rw f at h)))
+  where
+    go : ((k : ℕ) → k < length (open_ones rs) → get_or (open_ones rs) k [] ≡ steps_of (drop 1 (get_or rs k [])))
+        → (i : ℕ) → i < suc (length (open_ones rs)) → get_or (steps_of (drop 1 r) ∷ open_ones rs) i [] ≡ steps_of (drop 1 (get_or (r ∷ rs) i []))
+    go below zero l = refl
+    go below (suc k) l = below k (omega arith)

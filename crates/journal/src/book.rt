@@ -1,67 +1,69 @@
-// The whole journal book: how many journals it has, which is the last, the steps of one of them, and in how many of them a word is.
+// The whole journal book, once its form is known: how many journals it has, which is the last, the steps of one of them, and in
+// how many of them a word is.
 
-ghost use Rattle.std.specs.Prelude.{◌≡◌, true, [], ◌<◌, length, get_or};
-ghost use Rattle.records.specs.Sizes.{journal_book_size};
+ghost use Rattle.std.specs.Prelude.{◌≡◌, true, false, [], ◌<◌, length, get_or, MatchResult};
 ghost use Rattle.words.specs.Words.{count};
 ghost use Rattle.words.specs.Journals.{last_of};
-ghost use Rattle.records.specs.JournalBook.{journal_form, journals_of};
+ghost use Rattle.records.specs.JournalBook.{journal_form, first_wrong_record, journals_of};
 
+use crate::form::{first_wrong_record, records};
 use crate::steps::is_in;
-use records::JOURNAL_RECORD;
+use records::JOURNAL_BOOK;
 use words::JOURNALS;
 
-// The number of journals, which is that of the open records before the first that isn't open.
-pub fn open_count(journals: &[u8]) -> usize
-    requires { length journals.now ≡ journal_book_size }
-    ensures { result ≡ length (journals_of journals.now) }
-{
-    let mut k = 0;
-    while k < JOURNALS {
-        if journals[JOURNAL_RECORD * k] != 1 {
-            return k;
+// A lent journal book that has its form.
+#[derive(Clone, Copy)]
+pub struct JournalBook<'a> {
+    pub bytes: &'a [u8; JOURNAL_BOOK],
+    pub ghost form: { journal_form bytes.now ≡ true },
+}
+
+impl<'a> JournalBook<'a> {
+    // The book that the bytes are, or their first wrong record.
+    pub fn read(bytes: &'a [u8; JOURNAL_BOOK]) -> Result<JournalBook<'a>, usize>
+        ensures { MatchResult result (λ book. (journal_form bytes.now ≡ true) × (book.bytes.now ≡ bytes.now)) (λ i. (journal_form bytes.now ≡ false) × (i ≡ first_wrong_record bytes.now)) }
+    {
+        match first_wrong_record(bytes) {
+            Some(i) => Err(i),
+            None => Ok(JournalBook { bytes }),
         }
-        k += 1;
     }
-    k
-}
 
-// The number of the journal opened last, and 0 where there is none.
-pub fn last_journal(journals: &[u8]) -> usize
-    requires { length journals.now ≡ journal_book_size }
-    ensures { result ≡ last_of (journals_of journals.now) }
-{
-    let k = open_count(journals);
-    if k == 0 {
-        return 0;
+    // The number of journals, which is that of the open records before the first that isn't open.
+    pub fn open_count(&self) -> usize
+        ensures { result ≡ length (journals_of self.now.bytes.now) }
+    {
+        records(self.bytes).iter().position(|r| r[0] != 1).unwrap_or(JOURNALS)
     }
-    k - 1
-}
 
-// The steps of journal i, as a part of the book.
-pub fn journal_at(journals: &[u8], i: usize) -> &[u8]
-    requires { (journal_form journals.now ≡ true) × (i < length (journals_of journals.now)) }
-    ensures { result.now ≡ get_or (journals_of journals.now) i [] }
-{
-    let a = JOURNAL_RECORD * i;
-    let n = journals[a + 1] as usize;
-    let b = a + 2;
-    let e = b + n;
-    &journals[b..e]
-}
+    // The number of the journal opened last, and 0 where there is none.
+    pub fn last_journal(&self) -> usize
+        ensures { result ≡ last_of (journals_of self.now.bytes.now) }
+    {
+        self.open_count().saturating_sub(1)
+    }
 
-// In how many journals the word is.
-pub fn count_in(journals: &[u8], word: &[u8]) -> u8
-    requires { journal_form journals.now ≡ true }
-    ensures { result ≡ count (journals_of journals.now) word.now }
-{
-    let k = open_count(journals);
-    let mut n: u8 = 0;
-    let mut i = 0;
-    while i < k {
-        if is_in(word, journal_at(journals, i)) {
-            n += 1;
+    // The steps of journal i, as a part of the book.
+    pub fn journal_at(&self, i: usize) -> &'a [u8]
+        requires { i < length (journals_of self.now.bytes.now) }
+        ensures { result.now ≡ get_or (journals_of self.now.bytes.now) i [] }
+    {
+        let record = &records(self.bytes)[i];
+        let end = 2 + record[1] as usize;
+        &record[2..end]
+    }
+
+    // In how many journals the word is.
+    #[tactic(auto, using(crate::proofs::Journals::few))]
+    pub fn count_in(&self, word: &[u8]) -> u8
+        ensures { result ≡ count (journals_of self.now.bytes.now) word.now }
+    {
+        let mut n = 0;
+        for i in 0..self.open_count() {
+            if is_in(word, self.journal_at(i)) {
+                n += 1;
+            }
         }
-        i += 1;
+        n
     }
-    n
 }

@@ -1,13 +1,13 @@
 // The form of bytes that hold steps, of a journal record, and of the journal book.
 
-ghost use Rattle.std.specs.Prelude.{◌≡◌, ◌<◌, length};
-ghost use Rattle.records.specs.Sizes.{journal_book_size, journal_record_size};
+ghost use Rattle.std.specs.Prelude.{◌≡◌, ◌<◌, length, MatchOption, true, false};
 ghost use Rattle.records.specs.StepBytes.{steps_form};
-ghost use Rattle.records.specs.JournalBook.{record_form, wrong_record, first_wrong_record};
+ghost use Rattle.records.specs.JournalBook.{journal_form, record_form, wrong_record, first_wrong_record};
+ghost use Rattle.journal.specs.Records.{records_of};
 
 use lent_bytes::all_below;
-use records::JOURNAL_RECORD;
-use words::{JOURNALS, LONGEST_JOURNAL, STEP_CODES};
+use records::{JOURNAL_BOOK, JOURNAL_RECORD};
+use words::{LONGEST_JOURNAL, STEP_CODES};
 
 // Whether bytes are a length, as many steps, and zeros behind.
 pub fn steps_form(b: &[u8], most: usize) -> bool
@@ -15,20 +15,11 @@ pub fn steps_form(b: &[u8], most: usize) -> bool
     ensures { result ≡ steps_form most b.now }
 {
     let n = b[0] as usize;
-    if most < n {
-        return false;
-    }
-    let e = 1 + n;
-    if all_below(&b[1..e], STEP_CODES) {
-        all_below(&b[e..], 1)
-    } else {
-        false
-    }
+    n <= most && all_below(&b[1..1 + n], STEP_CODES) && all_below(&b[1 + n..], 1)
 }
 
 // Whether a record is open and holds steps, or is all zero.
-fn record_form(r: &[u8]) -> bool
-    requires { length r.now ≡ journal_record_size }
+fn record_form(r: &[u8; JOURNAL_RECORD]) -> bool
     ensures { result ≡ record_form r.now }
 {
     if r[0] == 1 {
@@ -39,32 +30,29 @@ fn record_form(r: &[u8]) -> bool
 }
 
 // Whether a record's form is wrong, or it is open after one that isn't.
-fn wrong_record(open_before: bool, r: &[u8]) -> bool
-    requires { length r.now ≡ journal_record_size }
+fn wrong_record(open_before: bool, r: &[u8; JOURNAL_RECORD]) -> bool
     ensures { result ≡ wrong_record open_before r.now }
 {
-    if record_form(r) {
-        if r[0] == 1 { !open_before } else { false }
-    } else {
-        true
-    }
+    !record_form(r) || (r[0] == 1 && !open_before)
 }
 
-// The first record that is wrong, or 16.
-pub fn first_wrong_record(journals: &[u8]) -> usize
-    requires { length journals.now ≡ journal_book_size }
-    ensures { result ≡ first_wrong_record journals.now }
+// The records of a book, one behind the other.
+pub(crate) fn records(book: &[u8; JOURNAL_BOOK]) -> &[[u8; JOURNAL_RECORD]]
+    ensures { result.now ≡ records_of book.now }
+{
+    book.as_chunks::<JOURNAL_RECORD>().0
+}
+
+// The first record that is wrong, if one is.
+pub(crate) fn first_wrong_record(book: &[u8; JOURNAL_BOOK]) -> Option<usize>
+    ensures { MatchOption result (journal_form book.now ≡ true) (λ i. (journal_form book.now ≡ false) × (i ≡ first_wrong_record book.now)) }
 {
     let mut open_before = true;
-    let mut i = 0;
-    while i < JOURNALS {
-        let a = JOURNAL_RECORD * i;
-        let e = a + JOURNAL_RECORD;
-        if wrong_record(open_before, &journals[a..e]) {
-            return i;
+    for (i, r) in records(book).iter().enumerate() {
+        if wrong_record(open_before, r) {
+            return Some(i);
         }
-        open_before = journals[a] == 1;
-        i += 1;
+        open_before = r[0] == 1;
     }
-    i
+    None
 }

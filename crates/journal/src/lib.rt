@@ -7,6 +7,5 @@ mod form;
 mod steps;
 mod writing;
 
-pub use book::{count_in, journal_at, last_journal, open_count};
-pub use form::{first_wrong_record, steps_form};
-pub use writing::{with_journal, with_step};
+pub use book::JournalBook;
+pub use form::steps_form;

@@ -32,14 +32,7 @@ pub fn copy_all(source: &[u8], bytes: &mut [u8])
 pub fn all_below(b: &[u8], limit: u8) -> bool
     ensures { result ≡ all_below limit b.now }
 {
-    let mut i = 0;
-    while i < b.len() {
-        if limit <= b[i] {
-            return false;
-        }
-        i += 1;
-    }
-    true
+    b.iter().all(|&x| x < limit)
 }
 
 // The sixteen bytes from a byte on.

@@ -1,17 +1,23 @@
-use Rattle.std.proofs.Common.{ℕ, ◌+◌, ◌-◌, List, length, take, drop, ap, sym, ◌∙◌}
+use Rattle.std.proofs.Common.{◌≡◌, ◌≢◌, ◌+◌, ◌-◌, ◌<◌, ℕ, List, length, take, drop, get_or, sym, ap, ◌∙◌, rules}
+use Rattle.std.proofs.lemmas.List.{take_rest}
+use Rattle.std.proofs.iter.runs.Made.{chains}
 use Rattle.words.specs.Words.{is_in}
-use Rattle.journal.proofs.Parts.{part_rest}
-use Rattle.journal.proofs.Index.{in_found, in_lost}
+use Rattle.journal.proofs.Found.{in_found, in_lost}
 use Rattle.journal.proofs.steps.+is_in.Goals as goal
 
-pub returns-then-k-journal : goal.returns-then-k-journal
-returns-then-k-journal t c =
+pub returns-in-Some : goal.returns-in-Some
+returns-in-Some t c =
     let w = c.args.word.now in
     let j = c.args.journal.now in
-    let k = c.find-k.result in
-    c.is_in.ensures ∙ ap (λ (x : List ℕ). is_in x (take (length j - (k + 1)) (drop (k + 1) j))) (part_rest 1 w)
-    ∙ ap (λ (x : List ℕ). is_in (drop 1 w) x) (part_rest (k + 1) j)
-    ∙ sym (in_found w j k c.if-word-eq0.false c.find-k.ensures c.if-k-journal.true)
+    let k = c.in-Some.k in
+    let h : k < length j = search (rules, chains) in
+    let e : get_or j k 0 ≡ get_or w 0 0 = search (rules, chains) in
+    let n : (m : ℕ) → m < k → get_or j m 0 ≢ get_or w 0 0 = search (rules, chains) in
+    (rw (take_rest w 1, take_rest j (k + 1)) at c.is_in.ensures) ∙ sym (in_found w j k c.in-len1-up.len_at_least h e n)
 
-pub returns-else-k-journal : goal.returns-else-k-journal
-returns-else-k-journal t c = sym (in_lost c.args.word.now c.args.journal.now c.find-k.result c.if-word-eq0.false c.find-k.ensures c.if-k-journal.false)
+pub returns-in-None : goal.returns-in-None
+returns-in-None t c =
+    let w = c.args.word.now in
+    let j = c.args.journal.now in
+    let n : (m : ℕ) → m < length j → get_or j m 0 ≢ get_or w 0 0 = search (rules, chains) in
+    sym (in_lost w j c.in-len1-up.len_at_least n)

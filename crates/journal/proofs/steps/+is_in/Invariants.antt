@@ -1,6 +1,4 @@
--- `journal::steps::is_in` meets its contract. The measure is the number of the word's steps, which falls by one with each call. An empty word is in;
--- another is in where the rest is in what follows its first step, which is what the call on the two parts says (`Index.antt`).
--- Assumes nothing.
+-- `journal::steps::is_in` meets its contract. The measure is the number of the word's steps, which falls by one with each call. Assumes nothing.
 use Rattle.std.proofs.Common.{length}
 use Rattle.journal.proofs.steps.+is_in.Given as goal
 

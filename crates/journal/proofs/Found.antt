@@ -1,0 +1,24 @@
+-- A word is in where its first step is found and the rest is in what follows. By induction over the journal. Assumes nothing.
+use Rattle.std.proofs.Common.{◌≡◌, ◌≢◌, ℕ, zero, suc, ◌+◌, ◌<◌, ◌≤◌, Bool, true, false, List, [], ◌∷◌, length, take, drop, get_or, refl, ◌∙◌, arith, add-one, ne_eqb, eq-eqb}
+use Rattle.words.specs.Words.{is_in}
+
+-- behind the first s, at k
+found : (s : ℕ) (w j : List ℕ) (k : ℕ) → k < length j → get_or j k 0 ≡ s → ((m : ℕ) → m < k → get_or j m 0 ≢ s) → is_in (s ∷ w) j ≡ is_in w (drop (suc k) j)
+found s w [] k h e n = absurd (omega arith)
+found s w (x ∷ j) zero h e n = rw (eq-eqb x s e)
+found s w (x ∷ j) (suc k) h e n = rw (ne_eqb x s (n 0 (omega arith))) (found s w j k (omega arith) e (λ m l. n (suc m) (omega arith)))
+
+-- nowhere, where no step is s
+lost : (s : ℕ) (w j : List ℕ) → ((m : ℕ) → m < length j → get_or j m 0 ≢ s) → is_in (s ∷ w) j ≡ false
+lost s w [] n = refl
+lost s w (x ∷ j) n = rw (ne_eqb x s (n 0 (omega arith))) (lost s w j (λ m l. n (suc m) (omega arith)))
+
+-- the same of a word that has a first step, with its rest
+pub in_found : (w j : List ℕ) (k : ℕ) → 1 ≤ length w → k < length j → get_or j k 0 ≡ get_or w 0 0 → ((m : ℕ) → m < k → get_or j m 0 ≢ get_or w 0 0)
+    → is_in w j ≡ is_in (drop 1 w) (drop (k + 1) j)
+in_found [] j k l h e n = absurd (omega arith)
+in_found (s ∷ w) j k l h e n = rw add-one (found s w j k h e n)
+
+pub in_lost : (w j : List ℕ) → 1 ≤ length w → ((m : ℕ) → m < length j → get_or j m 0 ≢ get_or w 0 0) → is_in w j ≡ false
+in_lost [] j l n = absurd (omega arith)
+in_lost (s ∷ w) j l n = lost s w j n
