@@ -1,7 +1,8 @@
 // The calls that read one book alone. Each call's promise is one equation with a definition of `books`, and holds for every input.
 #![tactic(auto)]
 
-ghost use Rattle.std.specs.Prelude.{◌≡◌, [], MatchResult};
+ghost use Rattle.std.specs.Prelude.{◌≡◌, ◌≢◌, [], length, MatchResult};
+ghost use Rattle.books.specs.declared.refused.Refused.TheVariants.{WrongSize};
 ghost use Rattle.books.specs.Answers.{number_in, counted_in, open_journals_in};
 ghost use Rattle.books.specs.TableCount.{table_count_call};
 ghost use Rattle.books.specs.JournalCount.{journal_count_call};
@@ -9,58 +10,60 @@ ghost use Rattle.books.specs.RowRecord.{row_record_call, row_record_number_call}
 ghost use Rattle.books.specs.OpenJournals.{open_journals_call};
 
 use books::Refused;
-use records::{JOURNAL_BOOK, LONGEST_WORD, ROW_BOOK, ROW_RECORD, ROWS, WORD_RECORD};
-use rows::{Walked, count_at, walk_to};
-use words::{JOURNALS, STEP_CODES};
+use journal::JournalBook;
+use records::{LONGEST_WORD, ROW_BOOK, ROW_RECORD, ROWS, WORD_RECORD};
+use rows::{Damaged, count_at, walk_to};
+use words::STEP_CODES;
+
+// Bytes of the size that is asked for.
+fn sized<const N: usize>(bytes: &[u8]) -> Result<&[u8; N], Refused>
+    ensures { MatchResult result (λ b. (length bytes.now ≡ N) × (b.now ≡ bytes.now)) (λ e. (length bytes.now ≢ N) × (e ≡ WrongSize)) }
+{
+    bytes.try_into().or(Err(Refused::WrongSize))
+}
 
 // Counts a word by the row book alone: walks from row 0 along the word's steps, and answers the last row's count.
+#[tactic(auto, using(books::proofs::TableCountCases::count_size, books::proofs::TableCountCases::count_step, books::proofs::TableCountCases::count_row, books::proofs::TableCountCases::count_none, books::proofs::TableCountCases::count_damage, rows::proofs::Arcs::walk_row))]
 pub fn table_count(rows: &[u8], word: &[u8]) -> Result<u8, Refused>
     ensures { counted_in result ≡ table_count_call rows.now word.now }
 {
-    if rows.len() != ROW_BOOK {
-        return Err(Refused::WrongSize);
-    }
+    let book = sized(rows)?;
     if !lent_bytes::all_below(word, STEP_CODES) {
         return Err(Refused::WrongStep);
     }
-    match walk_to(rows, word) {
-        Walked::Row(r) => Ok(count_at(rows, r)),
-        Walked::Nowhere => Ok(0),
-        Walked::Damage => Err(Refused::Damaged),
+    match walk_to(book, word) {
+        Ok(Some(row)) => Ok(count_at(book, row)),
+        Ok(None) => Ok(0),
+        Err(Damaged) => Err(Refused::Damaged),
     }
 }
 
 // Counts a word by the journal book alone: in how many journals the word of a word record is.
+#[tactic(auto, using(books::proofs::JournalCountCases::journals_size, books::proofs::JournalCountCases::record_size, books::proofs::JournalCountCases::word_wrong, books::proofs::JournalCountCases::book_wrong, books::proofs::JournalCountCases::word_counted, books::proofs::JournalCountCases::word_part))]
 pub fn journal_count(journals: &[u8], word_record: &[u8]) -> Result<u8, Refused>
     ensures { counted_in result ≡ journal_count_call journals.now word_record.now }
 {
-    if journals.len() != JOURNAL_BOOK {
-        return Err(Refused::WrongSize);
-    }
-    if word_record.len() != WORD_RECORD {
-        return Err(Refused::WrongSize);
-    }
-    if !journal::steps_form(word_record, LONGEST_WORD) {
+    let book = sized(journals)?;
+    let word: &[u8; WORD_RECORD] = sized(word_record)?;
+    if !journal::steps_form(word, LONGEST_WORD) {
         return Err(Refused::WrongWord);
     }
-    if journal::first_wrong_record(journals) != JOURNALS {
+    let Ok(book) = JournalBook::read(book) else {
         return Err(Refused::Damaged);
-    }
-    let end = 1 + word_record[0] as usize;
-    Ok(journal::count_in(journals, &word_record[1..end]))
+    };
+    let end = 1 + usize::from(word[0]);
+    Ok(book.count_in(&word[1..end]))
 }
 
 // How many journals are open, by the journal book alone.
+#[tactic(auto, using(books::proofs::OpenJournalsCases::open_size, books::proofs::OpenJournalsCases::open_wrong, books::proofs::OpenJournalsCases::open_known))]
 pub fn open_journals(journals: &[u8]) -> Result<usize, Refused>
     ensures { open_journals_in result ≡ open_journals_call journals.now }
 {
-    if journals.len() != JOURNAL_BOOK {
-        return Err(Refused::WrongSize);
+    match JournalBook::read(sized(journals)?) {
+        Ok(book) => Ok(book.open_count()),
+        Err(_) => Err(Refused::Damaged),
     }
-    if journal::first_wrong_record(journals) != JOURNALS {
-        return Err(Refused::Damaged);
-    }
-    Ok(journal::open_count(journals))
 }
 
 // The 64 bytes of a row, handed back where they stand in the lent book.
@@ -79,9 +82,7 @@ pub fn row_record(rows: &[u8], row: usize) -> Result<&[u8; ROW_RECORD], Refused>
 pub fn row_record_number(rows: &[u8], row: usize) -> Result<(), Refused>
     ensures { number_in result ≡ row_record_number_call rows.now row }
 {
-    if rows.len() != ROW_BOOK {
-        return Err(Refused::WrongSize);
-    }
+    let _book: &[u8; ROW_BOOK] = sized(rows)?;
     if ROWS <= row {
         return Err(Refused::WrongRow);
     }
