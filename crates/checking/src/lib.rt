@@ -21,6 +21,7 @@ pub fn check(journals: &[u8], rows: &[u8]) -> Result<(), Fault>
 }
 
 // How many live rows sound books have.
+#[tactic(auto, using(books::proofs::LiveRowsCases::live_refused, books::proofs::LiveRowsCases::live_found))]
 pub fn live_rows(journals: &[u8], rows: &[u8]) -> Result<usize, Refused>
     ensures { live_rows_in result ≡ live_rows_call journals.now rows.now }
 {

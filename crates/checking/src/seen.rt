@@ -25,6 +25,7 @@ fn compare_rows(rows: &[u8], picture: &[u8]) -> Result<(), Fault>
 }
 
 // What is seen of a row book whose journals have their form: the picture is drawn once, for both answers.
+#[tactic(auto, using(picture::proofs::Drawn::found_many, picture::proofs::Drawn::found_few, picture::proofs::Drawn::drawn_few, picture::proofs::Drawn::says_few, books::proofs::CheckCases::rows_many, books::proofs::CheckCases::rows_compared))]
 fn see_rows(journals: &[u8], rows: &[u8]) -> Result<usize, Fault>
     requires { (journal_form journals.now ≡ true) × (length rows.now ≡ row_book_size) }
     ensures says { checked_in result ≡ check_rows (journals_of journals.now) rows.now }
@@ -40,6 +41,7 @@ fn see_rows(journals: &[u8], rows: &[u8]) -> Result<usize, Fault>
 }
 
 // What is seen of both books.
+#[tactic(auto, using(books::proofs::BookSizes::both_sized, books::proofs::JournalCountCases::form_by, books::proofs::JournalCountCases::form_not, books::proofs::CheckCases::check_size, books::proofs::CheckCases::check_book_one, books::proofs::CheckCases::check_formed))]
 pub(crate) fn see(journals: &[u8], rows: &[u8]) -> Result<usize, Fault>
     ensures says { checked_in result ≡ check_call journals.now rows.now }
     ensures found { IfOk result (λ found. found ≡ length (picture (journals_of journals.now))) }

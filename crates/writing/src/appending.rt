@@ -13,6 +13,7 @@ use records::JOURNAL_BOOK;
 use words::{LONGEST_JOURNAL, STEP_CODES};
 
 // Whether appending at journal i is refused before the live states after it are counted, and with what.
+#[tactic(auto, using(books::proofs::AppendCases::append_seen, books::proofs::AppendCases::append_step, books::proofs::AppendCases::append_none, books::proofs::AppendCases::append_long, books::proofs::AppendCases::append_free, books::proofs::Faults::none_sizes))]
 fn decide_append(journals: &[u8], rows: &[u8], i: usize, step: u8) -> Result<(), Refused>
     ensures { number_in result ≡ first (early_refusals journals.now rows.now i step) }
 {

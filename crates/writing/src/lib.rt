@@ -21,6 +21,7 @@ use words::JOURNALS;
 use write::{write_books, write_rows};
 
 // Clears both books: every byte of them becomes zero.
+#[tactic(auto, using(books::proofs::ClearCases::clear_size, books::proofs::ClearCases::clear_done), unfolding(books::specs::Clear::zeros))]
 pub fn clear(journals: &mut [u8], rows: &mut [u8]) -> Result<(), Refused>
     ensures { after (number_in result) journals.new rows.new ≡ clear_call journals.old rows.old }
 {
@@ -43,6 +44,7 @@ pub fn open(journals: &mut [u8], rows: &mut [u8]) -> Result<(), Refused>
 }
 
 // Appends a step to the journal opened last.
+#[tactic(auto, using(books::proofs::AppendCases::append_size, books::proofs::AppendCases::append_last))]
 pub fn append(journals: &mut [u8], rows: &mut [u8], step: u8) -> Result<(), Refused>
     ensures { after (number_in result) journals.new rows.new ≡ append_call journals.old rows.old step }
 {
@@ -55,6 +57,7 @@ pub fn append(journals: &mut [u8], rows: &mut [u8], step: u8) -> Result<(), Refu
 }
 
 // Draws the row book anew from the journal book alone, whatever the row book held.
+#[tactic(auto, using(books::proofs::BookSizes::both_sized, books::proofs::JournalCountCases::form_by, books::proofs::JournalCountCases::form_not, books::proofs::RebuildCases::rebuild_size, books::proofs::RebuildCases::rebuild_formless, books::proofs::RebuildCases::rebuild_drawn))]
 pub fn rebuild(journals: &[u8], rows: &mut [u8]) -> Result<(), Refused>
     ensures { after (number_in result) journals.now rows.new ≡ rebuild_call journals.now rows.old }
 {

@@ -10,6 +10,7 @@ use checking::check;
 use words::JOURNALS;
 
 // Whether opening is refused, and with what.
+#[tactic(auto, using(books::proofs::OpenCases::open_seen, books::proofs::OpenCases::open_full, books::proofs::OpenCases::open_free, books::proofs::Faults::none_sizes))]
 pub(crate) fn decide_open(journals: &[u8], rows: &[u8]) -> Result<(), Refused>
     ensures { number_in result ≡ first (open_refusals journals.now rows.now) }
 {

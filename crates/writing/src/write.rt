@@ -14,6 +14,7 @@ use books::Refused;
 use records::ROWS;
 
 // Writes the picture of a journal book into a row book, or leaves that where the picture doesn't fit.
+#[tactic(auto, using(picture::proofs::Drawn::found_many, picture::proofs::Drawn::found_few, picture::proofs::Drawn::drawn_few, picture::proofs::Drawn::drawn_many, books::proofs::WriteCases::rows_full_is, books::proofs::WriteCases::rows_fit))]
 pub(crate) fn write_rows(journals: &[u8], rows: &mut [u8]) -> Result<(), Refused>
     requires { (journal_form journals.now ≡ true) × (length rows.old ≡ row_book_size) }
     ensures number { number_in result ≡ first (rows_refusal (journals_of journals.now) ∷ []) }
@@ -26,6 +27,7 @@ pub(crate) fn write_rows(journals: &[u8], rows: &mut [u8]) -> Result<(), Refused
 }
 
 // Writes a new journal book and its picture, or leaves both books where the picture doesn't fit.
+#[tactic(auto, using(journal::proofs::Journals::form_size, books::proofs::BookSizes::both_sized, books::proofs::Refusals::refused, books::proofs::RefusalNumbers::refusal_told, books::proofs::WriteCases::write_refused))]
 pub(crate) fn write_books(made: &[u8], journals: &mut [u8], rows: &mut [u8]) -> Result<(), Refused>
     requires { (journal_form made.now ≡ true) × (right_sizes journals.old rows.old ≡ true) }
     ensures { after (number_in result) journals.new rows.new ≡ write_call (journals_of made.now) journals.old rows.old }
