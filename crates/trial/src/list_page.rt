@@ -1,5 +1,6 @@
 // A page of the list: the call, and what is printed of it.
 
+use crate::calls::Lent;
 use crate::command::Page;
 use crate::stop::Stop;
 use list::Listed;
@@ -18,11 +19,11 @@ fn print_listed<W: Write>(out: &mut W, listed: Listed, room: &[u8]) -> io::Resul
     let written = listed.written;
     write!(
         out,
-        " -> {}, written {written}, more {}",
+        " -> {}, written {written}, more {}, digest {}",
         listed.number,
-        u8::from(listed.more)
+        u8::from(listed.more),
+        digest(room)
     )?;
-    write!(out, ", digest {}", digest(room))?;
     if written <= FEW
         && let Some(words) = room.get(..WORD_RECORD * written)
     {
@@ -31,26 +32,27 @@ fn print_listed<W: Write>(out: &mut W, listed: Listed, room: &[u8]) -> io::Resul
     Ok(())
 }
 
-// Fetches a page into the first bytes of the output's room and prints it. The line is broken where the room has fewer, or no word
-// record behind them.
-pub(crate) fn page<W: Write>(
-    out: &mut W,
-    page: Page,
-    journals: &[u8],
-    rows: &[u8],
-    room: &mut [u8],
-) -> Result<(), Stop> {
-    let end = page.lent.checked_add(WORD_RECORD).ok_or(Stop::Broken)?;
-    let shown = room.get_mut(..end).ok_or(Stop::Broken)?;
-    let listed = list::list(
-        journals,
-        rows,
-        page.quorum,
-        page.length,
-        page.after,
-        page.word,
-        &mut shown[..page.lent],
-    );
-    print_listed(out, listed, shown)?;
-    Ok(())
+impl Lent<'_> {
+    // Fetches a page into the first bytes of the output's room and prints it. The line is broken where the room has fewer, or no
+    // word record behind them.
+    pub(crate) fn page<W: Write>(
+        &self,
+        out: &mut W,
+        page: Page,
+        room: &mut [u8],
+    ) -> Result<(), Stop> {
+        let end = page.lent.checked_add(WORD_RECORD).ok_or(Stop::Broken)?;
+        let shown = room.get_mut(..end).ok_or(Stop::Broken)?;
+        let listed = list::list(
+            self.journals,
+            self.rows,
+            page.quorum,
+            page.length,
+            page.after,
+            page.word,
+            &mut shown[..page.lent],
+        );
+        print_listed(out, listed, shown)?;
+        Ok(())
+    }
 }
