@@ -1,6 +1,7 @@
 // The commands: the calls of the books, and what is done with the rooms. Each is read from its line.
 
-use script::number::{Numbers, read, to_bytes};
+use script::number;
+use script::number::Numbers;
 
 // One of the two books.
 #[derive(Clone, Copy)]
@@ -40,8 +41,15 @@ pub(crate) enum Call<'a> {
 #[derive(Clone, Copy)]
 pub(crate) enum Command<'a> {
     Call(Call<'a>),
-    Write(Book, usize, &'a [u8]),
-    Lend(Book, usize),
+    Write {
+        book: Book,
+        place: usize,
+        bytes: &'a [u8],
+    },
+    Lend {
+        book: Book,
+        length: usize,
+    },
     Fill(u8),
     Digest,
 }
@@ -97,12 +105,15 @@ impl<'a> Command<'a> {
     // The command of this name, with these numbers and bytes.
     fn of(name: &[u8], asked: &[usize], bytes: &'a [u8]) -> Option<Self> {
         match (name, asked, bytes) {
-            (b"write", [book, place], bytes) => Some(Command::Write(
-                Book::of(*book)?,
-                *place,
+            (b"write", [book, place], bytes) => Some(Command::Write {
+                book: Book::of(*book)?,
+                place: *place,
                 bytes,
-            )),
-            (b"lend", [book, length], []) => Some(Command::Lend(Book::of(*book)?, *length)),
+            }),
+            (b"lend", [book, length], []) => Some(Command::Lend {
+                book: Book::of(*book)?,
+                length: *length,
+            }),
             (b"fill", [], [byte]) => Some(Command::Fill(*byte)),
             (b"digest", [], []) => Some(Command::Digest),
             _ => Some(Command::Call(Call::of(name, asked, bytes)?)),
@@ -115,10 +126,10 @@ impl<'a> Command<'a> {
         let name = words.next()?;
         let mut numbers = Numbers::new();
         for word in words {
-            read(word, &mut numbers)?;
+            number::read(word, &mut numbers)?;
         }
         let (asked, rest) = numbers.as_slice().split_at_checked(heads(name))?;
-        to_bytes(rest, bytes)?;
+        number::to_bytes(rest, bytes)?;
         Command::of(name, asked, bytes.as_slice())
     }
 }

@@ -112,10 +112,10 @@ impl Rooms {
     ) -> Result<(), Stop> {
         match command {
             Command::Call(call) => self.call(out, call)?,
-            Command::Write(book, place, bytes) => {
+            Command::Write { book, place, bytes } => {
                 self.write(book, place, bytes).ok_or(Stop::Broken)?;
             }
-            Command::Lend(book, length) => self.lend(book, length),
+            Command::Lend { book, length } => self.lend(book, length),
             Command::Fill(byte) => self.output.fill(byte),
             Command::Digest => {
                 let (journals, rows) = (digest(&self.journals.bytes), digest(&self.rows.bytes));
