@@ -1,7 +1,7 @@
 // The keys of the live states, of sixteen bytes each: ascending, none twice. A key's place is found by halving.
 #![tactic(auto)]
 
-ghost use Rattle.std.specs.Prelude.{◌≡◌, ◌≤◌, ◌<◌, [], length, slice_index_or};
+ghost use Rattle.std.specs.Prelude.{◌≡◌, ◌+◌, ◌≤◌, ◌<◌, [], length, slice_index_or};
 ghost use Rattle.records.specs.Sizes.{most_rows};
 ghost use Rattle.words.specs.Picture.{insert};
 ghost use Rattle.keys.specs.Keys.{AreKeys, rank_of};
@@ -46,17 +46,10 @@ impl Keys {
 
     // How many keys there are.
     pub fn len(&self) -> usize
-        ensures { result ≡ length self.now }
-    {
-        self.held.len()
-    }
-
-    // The keys, in their order.
-    pub fn as_slice(&self) -> &[Key]
-        ensures all { result.now ≡ self.now }
+        ensures many { result ≡ length self.now }
         ensures keys { AreKeys self.now }
     {
-        &self.held
+        self.held.len()
     }
 
     // Key i.
@@ -69,7 +62,8 @@ impl Keys {
 
     // How many of the keys come before a key, found by halving.
     pub fn rank(&self, key: Key) -> usize
-        ensures { result ≡ rank_of key self.now }
+        ensures place { result ≡ rank_of key self.now }
+        ensures fits { result ≤ most_rows + 1 }
     {
         self.held.as_slice().partition_point(|held| *held < key)
     }

@@ -17,6 +17,7 @@ pub(crate) const ALL_NEXTS: usize = JOURNALS * NEXTS;
 pub(crate) const STEPS: usize = STEP_CODES as usize;
 
 // The entries of k journals, one after the other.
+#[derive(Drop)]
 pub struct Nexts {
     pub(crate) entries: [u8; ALL_NEXTS],
     pub(crate) k: usize,

@@ -13,12 +13,12 @@ module _ (c : goal.After-insert) where
   goes_in =
       let absent = not_there _ _ _ c.get.result c.get.ensures.lookup.3 (sym c.ne.ensures ∙ c.if-ne.true) in
       c.insert.ensures.items
-      ∙ rw c.self.view_is (sym (insert_new c.args.key c.args.self.now c.rank-p.result c.rank-p.ensures (rw (c.deref.ensures.0, c.self.view_is) at absent)))
+      ∙ rw c.self.view_is (sym (insert_new c.args.key c.args.self.now c.rank-p.result c.rank-p.ensures.place (rw (c.deref.ensures.0, c.self.view_is) at absent)))
 
 pub insert-requires : goal.insert-requires
 insert-requires c =
     let rank = rank_most c.args.key c.args.self.now in
-    rw c.self.view_is (search rules, (omega (arith, c.rank-p.ensures), omega arith))
+    rw c.self.view_is (search rules, (omega (arith, c.rank-p.ensures.place), omega arith))
 
 pub invariant_of-self : goal.invariant_of-self
 invariant_of-self c = rw (goes_in c) (put_in c.args.key c.args.self.now (omega arith) (rw c.self.view_is at c.self.invariant))
@@ -30,4 +30,4 @@ pub returns-else-ne : goal.returns-else-ne
 returns-else-ne c =
     let there = found_there _ _ _ c.get.result c.get.ensures.lookup.3 (sym c.ne.ensures ∙ c.if-ne.false) in
     let here = rw (c.deref.ensures.0, c.self.view_is) at there in
-    sym (insert_old c.args.key c.args.self.now c.rank-p.result c.rank-p.ensures here.0 here.1)
+    sym (insert_old c.args.key c.args.self.now c.rank-p.result c.rank-p.ensures.place here.0 here.1)

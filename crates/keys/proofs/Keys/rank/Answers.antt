@@ -8,8 +8,8 @@ use Rattle.keys.proofs.Compared.{lt_before}
 use Rattle.keys.proofs.Ranks.{parted, rank_is}
 use Rattle.keys.proofs.Keys.rank.Goals as goal
 
-pub returns : goal.returns
-returns c =
+pub returns-clause-place : goal.returns-clause-place
+returns-clause-place c =
     let key = c.args.key in
     let keys = c.self.inside.held.items in
     let found = c.partition_point in
