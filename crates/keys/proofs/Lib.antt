@@ -1,6 +1,2 @@
-pub mod Order
-pub mod Records
-pub mod Held
-pub mod RoomForKey
+pub mod Compared
 pub mod Ranks
-pub mod KeyCompared

@@ -1,32 +1,38 @@
 -- What drawing answers and leaves, by whether the picture fits. Assumes nothing.
 use Prim.Native.Nat.{ℕ, ◌≤◌, ◌<◌}
-use native.Mathlib.Omega.{arith}
 use mathlib.Core.Path.{◌≡◌}
 use mathlib.Core.List.{List}
+use lib.Dec.{leb}
 use lib.ListN.{length}
-use borrow.Author.Tests.{le-leb, lt-leb}
+use borrow.Author.Tests.{le-leb, lt-leb, leb-true, leb-false}
+use Rattle.std.proofs.Common.{Some, None}
 use Rattle.words.specs.Picture.{picture}
+use Rattle.words.proofs.Test.{test}
 use Rattle.records.specs.RowBook.{row_book}
 use Rattle.picture.specs.Drawn.{rows_found, drawn}
 
 module _ (js : List (List ℕ)) where
-  -- the number by what the search found
-  pub says_many : (n : ℕ) → (n ≡ 1001) × (1000 < length (picture js)) → n ≡ rows_found js
+  -- the answer by how many live states there are
+  pub says_many : 1000 < length (picture js) → None ≡ rows_found js
   unfolding rows_found
-  says_many n h = omega arith
+  says_many h = rw (lt-leb (length (picture js)) 1000 h)
 
-  pub says_few : (n : ℕ) → n ≡ length (picture js) → n ≤ 1000 → n ≡ rows_found js
+  pub says_few : length (picture js) ≤ 1000 → Some (length (picture js)) ≡ rows_found js
   unfolding rows_found
-  says_few n e h = omega arith
+  says_few h = rw (le-leb (length (picture js)) 1000 h)
 
   -- and what it says
-  pub found_many : 1000 < rows_found js → 1000 < length (picture js)
+  pub found_many : None ≡ rows_found js → 1000 < length (picture js)
   unfolding rows_found
-  found_many h = omega arith
+  found_many e =
+      test (leb (length (picture js)) 1000) (λ t. let z : None ≡ Some (length (picture js)) = rw t at e in cc) (λ f. leb-false (length (picture js)) 1000 f)
 
-  pub found_few : rows_found js ≤ 1000 → length (picture js) ≤ 1000
+  pub found_few : (n : ℕ) → Some n ≡ rows_found js → (n ≡ length (picture js)) × (length (picture js) ≤ 1000)
   unfolding rows_found
-  found_few h = omega arith
+  found_few n e =
+      test (leb (length (picture js)) 1000)
+      (λ t. let z : Some n ≡ Some (length (picture js)) = rw t at e in (cc, leb-true (length (picture js)) 1000 t))
+      (λ f. let z : Some n ≡ None = rw f at e in cc)
 
   pub drawn_few : (rb : List ℕ) → length (picture js) ≤ 1000 → drawn js rb ≡ row_book js
   unfolding drawn

@@ -8,26 +8,27 @@ use Rattle.words.specs.Places.{live}
 use Rattle.words.proofs.Codes.{at_step}
 use Rattle.keys.specs.Keys.{rank_of}
 use Rattle.states.specs.Stepped.{stepped_key}
+use Rattle.states.specs.declared.nexts.Nexts.{Nexts}
 use Rattle.picture.specs.KeyRow.{key_arc, key_arcs}
 
-module _ (nexts : List ℕ) (k : ℕ) (keys : List (List ℕ)) (key : List ℕ) where
-  module _ (s : ℕ) (to : List ℕ) (e : to ≡ stepped_key nexts k key s) where
+module _ (nexts : Nexts) (keys : List (List ℕ)) (key : List ℕ) where
+  module _ (s : ℕ) (to : List ℕ) (e : to ≡ stepped_key nexts key s) where
     -- the arc to a key that is live
-    pub arc_live : live (take k to) ≡ true → rank_of to keys ≡ key_arc nexts k keys key s
+    pub arc_live : live (take nexts.k to) ≡ true → rank_of to keys ≡ key_arc nexts keys key s
     unfolding key_arc
     arc_live t = rw (← e, t)
 
     -- the arc to a key that isn't
-    pub arc_lost : live (take k to) ≡ false → 0 ≡ key_arc nexts k keys key s
+    pub arc_lost : live (take nexts.k to) ≡ false → 0 ≡ key_arc nexts keys key s
     unfolding key_arc
     arc_lost f = rw (← e, f)
 
   -- there is an arc for each step
-  pub length_arcs : length (key_arcs nexts k keys key) ≡ 16
+  pub length_arcs : length (key_arcs nexts keys key) ≡ 16
   unfolding key_arcs
   length_arcs = refl
 
   -- the arc under a step
-  pub arc_at_is : (s : ℕ) → s < 16 → key_arc nexts k keys key s ≡ get_or (key_arcs nexts k keys key) s 0
+  pub arc_at_is : (s : ℕ) → s < 16 → key_arc nexts keys key s ≡ get_or (key_arcs nexts keys key) s 0
   unfolding key_arcs
-  arc_at_is s h = sym (at_step (key_arc nexts k keys key) s h)
+  arc_at_is s h = sym (at_step (key_arc nexts keys key) s h)

@@ -4,7 +4,7 @@ use native.Mathlib.Omega.{arith}
 use mathlib.Core.Path.{◌≡◌, refl, sym, ap, ◌∙◌}
 use mathlib.Core.List.{List, [], ◌++◌, append_assoc}
 use lib.ListN.{length, take, drop, get_or, replicate, replicate-append-replicate}
-use lib.Seq.{paste, drop-drop, take_all, take_at}
+use lib.Seq.{take_at}
 use Rattle.words.proofs.Rows.{at_mem}
 use Rattle.records.specs.Sizes.{row_book_size}
 use Rattle.records.specs.RowBook.{record_of_row, behind_count, unused}
@@ -56,16 +56,14 @@ module _ (keys : List (List ℕ)) where
       blank_wide a m = refl
 
       -- row i is laid
-      pub lays : (rows : List ℕ) → rows ≡ replaced blank laid keys z (i + 1) → paste rows (64 * i) Key 16 ≡ replaced blank laid keys z i
+      pub lays : (rows : List ℕ) → rows ≡ replaced blank laid keys z (i + 1) → take (64 * i) rows ++ (Key ++ drop 16 (drop (64 * i) rows)) ≡ replaced blank laid keys z i
       lays rows e =
           let Book = replaced blank laid keys z (i + 1) in
-          let rest : drop (64 * i + 16) Book ≡ replicate 48 0 ++ drop (64 * i + 64) Book
-          = sym (drop-drop 16 (64 * i) Book)
-          ∙ ap (drop 16) (from_item blank laid keys z 64 blank_wide i b)
+          let rest : drop 16 (drop (64 * i) Book) ≡ replicate 48 0 ++ drop (64 * i + 64) Book
+          = ap (drop 16) (from_item blank laid keys z 64 blank_wide i b)
           ∙ ap (λ (r : List ℕ). replicate 48 0 ++ r) (sym (behind blank laid keys z 64 blank_wide i b)) in
-          rw (e, take_all 16 Key (omega (arith, key_sixteen)), rest)
-          (append_assoc (take (64 * i) Book) Key (replicate 48 0 ++ drop (64 * i + 64) Book)
-          ∙ ap (λ (r : List ℕ). take (64 * i) Book ++ r) (sym (append_assoc Key (replicate 48 0) (drop (64 * i + 64) Book)))
+          rw (e, rest)
+          (ap (λ (r : List ℕ). take (64 * i) Book ++ r) (sym (append_assoc Key (replicate 48 0) (drop (64 * i + 64) Book)))
           ∙ ap (λ (r : List ℕ). take (64 * i) Book ++ (r ++ drop (64 * i + 64) Book)) (sym (laid_zeros Key))
           ∙ replaced_on blank laid keys z 64 blank_wide i b)
 

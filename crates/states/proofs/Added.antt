@@ -6,10 +6,9 @@ use mathlib.Core.Bool.{true, false}
 use mathlib.Core.List.Memᴰ
 use mathlib.Core.List.{List, [], ◌∷◌, map}
 use lib.ListN.{length, take}
-use Rattle.words.specs.Order.{before, Ascending}
+use Rattle.words.specs.Order.{before}
 use Rattle.words.specs.Places.{live}
 use Rattle.words.specs.Picture.{insert, keep}
-use Rattle.words.proofs.Order.{insert_ascending}
 use Rattle.words.proofs.Sweep.{length_insert}
 use Rattle.words.proofs.Test.{test}
 use Rattle.records.specs.RowBook.{place_bytes}
@@ -25,11 +24,6 @@ module _ (k : ℕ) (to key : List ℕ) (keys : List (List ℕ)) (e : to ≡ key)
   pub stays_out : live (take k to) ≡ false → keys ≡ with_key k key keys
   unfolding with_key
   stays_out f = rw (← e, f)
-
--- keys that ascend ascend with it
-pub with_ascending : (k : ℕ) (key : List ℕ) (keys : List (List ℕ)) → Ascending keys → Ascending (with_key k key keys)
-unfolding with_key
-with_ascending k key keys h = test (live (take k key)) (λ t. rw t (insert_ascending key keys h)) (λ f. rw f h)
 
 -- an insertion adds at most one
 insert_most : (q : List ℕ) (l : List (List ℕ)) → length (insert q l) ≤ suc (length l)

@@ -15,7 +15,7 @@ use Rattle.words.proofs.Steps.{step_at, step_length}
 use Rattle.words.proofs.Test.{test}
 use Rattle.records.specs.RowBook.{place_bytes}
 use Rattle.states.specs.Nexts.{Tabled}
-use Rattle.states.specs.Stepped.{next_at, stepped_places, stepped_key}
+use Rattle.states.specs.Stepped.{next_at, stepped_places, key_of_stepped}
 
 -- the two cases of a place
 pub next_lost : (nexts : List ℕ) (i p s : ℕ) → 200 < p → next_at nexts i p s ≡ 255
@@ -43,16 +43,16 @@ module _ (nexts ps : List ℕ) (s : ℕ) where
       get_or-append (stepped_places nexts ps s k) (next_at nexts k (get_or ps k 0) s ∷ []) 0 i (omega (arith, length_stepped k)) ∙ stepped_at k i l)
 
   -- nothing is stepped before the first turn
-  pub stepped_none : replicate 16 0 ≡ stepped_key nexts 0 ps s
-  unfolding stepped_key stepped_places
+  pub stepped_none : replicate 16 0 ≡ key_of_stepped nexts 0 ps s
+  unfolding key_of_stepped stepped_places
   stepped_none = refl
 
-  key_is : (i : ℕ) → stepped_key nexts i ps s ≡ stepped_places nexts ps s i ++ replicate (16 - i) 0
-  unfolding stepped_key
+  key_is : (i : ℕ) → key_of_stepped nexts i ps s ≡ stepped_places nexts ps s i ++ replicate (16 - i) 0
+  unfolding key_of_stepped
   key_is i = ap (λ (n : ℕ). stepped_places nexts ps s i ++ replicate (16 - n) 0) (length_stepped i)
 
   -- one place more
-  pub stepped_more : (i : ℕ) → i < 16 → set (stepped_key nexts i ps s) i (next_at nexts i (get_or ps i 0) s) ≡ stepped_key nexts (i + 1) ps s
+  pub stepped_more : (i : ℕ) → i < 16 → set (key_of_stepped nexts i ps s) i (next_at nexts i (get_or ps i 0) s) ≡ key_of_stepped nexts (i + 1) ps s
   unfolding stepped_places
   stepped_more i h =
       let v : ℕ = next_at nexts i (get_or ps i 0) s in
@@ -94,6 +94,6 @@ module _ (js : List (List ℕ)) (are : AreJournals js) (nexts : List ℕ) (table
         ∙ ap (λ (p : ℕ). next (get_or js i []) p s) (sym (get_or-take (length js) key i 0 b)) ∙ sym (step_at js (take (length js) key) s i b width))
 
     -- a key stepped is the key of the state that the step leads to
-    pub stepped_key_lem : stepped_key nexts (length js) key s ≡ place_bytes (step js (take (length js) key) s)
-    unfolding stepped_key
+    pub stepped_key_lem : key_of_stepped nexts (length js) key s ≡ place_bytes (step js (take (length js) key) s)
+    unfolding key_of_stepped
     stepped_key_lem = ap place_bytes stepped_places_lem

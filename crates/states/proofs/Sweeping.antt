@@ -4,12 +4,10 @@ use Prim.Native.Nat.{ℕ, zero, suc, ◌+◌, ◌-◌, ◌≤◌, ◌<◌}
 use native.Mathlib.Numerals.{add-one}
 use native.Mathlib.Omega.{arith}
 use mathlib.Core.Path.{◌≡◌, refl, sym, ap, ap₂, ◌∙◌}
-use mathlib.Core.List.Memᴰ
 use mathlib.Core.List.{List, [], ◌∷◌, ◌++◌, map}
 use lib.ListN.{length, take, get_or, replicate, length-map}
-use Rattle.words.specs.Order.{Ascending}
 use Rattle.words.specs.Places.{state, step, live}
-use Rattle.words.specs.Picture.{insert, keep, picture}
+use Rattle.words.specs.Picture.{keep, picture}
 use Rattle.words.specs.Sweep.{Partial}
 use Rattle.words.specs.Words.{AreJournals}
 use Rattle.words.proofs.Place.{Short, short}
@@ -19,45 +17,44 @@ use Rattle.words.proofs.Sweep.{sweep_start, partial_width, dead_step, live_step,
 use Rattle.words.proofs.Test.{test}
 use Rattle.records.specs.RowBook.{place_bytes}
 use Rattle.records.proofs.Keys.{key_at, key_length}
-use Rattle.keys.specs.Keys.{keys_in}
-use Rattle.keys.proofs.Held.{no_keys, length_keys}
-use Rattle.states.specs.Nexts.{Tabled}
-use Rattle.states.specs.Stepped.{stepped_key, with_key}
-use Rattle.states.specs.Found.{states_in, Sweeping, Swept, Found}
+use Rattle.states.specs.Table.{TableOf}
+use Rattle.states.specs.Stepped.{key_of_stepped, stepped_key, with_key}
+use Rattle.states.specs.Found.{states_of, Sweeping, RowKeys}
+use Rattle.states.specs.declared.nexts.Nexts.{Nexts}
 use Rattle.states.proofs.Stepped.{stepped_key_lem}
-use Rattle.states.proofs.Added.{keep_most, keep_least, state_back, states_back, with_keys}
+use Rattle.states.proofs.Added.{keep_least, state_back, states_back, with_keys}
 
 -- the sweep within row i, whose key is at hand
-pub record Growing (js : List (List ℕ)) (i s : ℕ) (key : List ℕ) (n : ℕ) (t : List ℕ) : Type 0 where
-  pub sweeping : Sweeping js i s n t
-  pub row : i < n
-  pub of_row : key ≡ place_bytes (get_or (states_in (length js) n t) i [])
+pub record Growing (js : List (List ℕ)) (i s : ℕ) (key : List ℕ) (keys : List (List ℕ)) : Type 0 where
+  pub sweeping : Sweeping js i s keys
+  pub row : i < length keys
+  pub of_row : key ≡ place_bytes (get_or (states_of (length js) keys) i [])
 
 -- after a step of row i: still so, or there are more live states than there is room for
-pub record Grown (js : List (List ℕ)) (i s : ℕ) (key : List ℕ) (n : ℕ) (t : List ℕ) : Type 0 where
-  pub few : n ≤ 1000 → Growing js i s key n t
-  pub most : 1000 < n → (n ≡ 1001) × (1000 < length (picture js))
+pub record Grown (js : List (List ℕ)) (i s : ℕ) (key : List ℕ) (keys : List (List ℕ)) : Type 0 where
+  pub few : length keys ≤ 1000 → Growing js i s key keys
+  pub most : 1000 < length keys → 1000 < length (picture js)
 
 module _ (js : List (List ℕ)) (are : AreJournals js) where
   limits : Short js
   limits = short js are.each
 
-  how_many : (n : ℕ) (t : List ℕ) → length (states_in (length js) n t) ≡ n
-  how_many n t = length-map (keys_in n t) (take (length js)) ∙ length_keys n t
+  how_many : (keys : List (List ℕ)) → length (states_of (length js) keys) ≡ length keys
+  how_many keys = length-map keys (take (length js))
 
-  module _ (i s n : ℕ) (t : List ℕ) (w : Sweeping js i s n t) where
+  module _ (i s : ℕ) (keys : List (List ℕ)) (w : Sweeping js i s keys) where
     -- row i, with its key
-    pub row_begins : i < n → {key : List ℕ} → key ≡ get_or (keys_in n t) i [] → Growing js i s key n t
+    pub row_begins : i < length keys → {key : List ℕ} → key ≡ get_or keys i [] → Growing js i s key keys
     row_begins h read =
         record {
           sweeping = w;
           row = h;
-          of_row = read ∙ ap (λ (x : List (List ℕ)). get_or x i []) w.keys ∙ key_at (states_in (length js) n t) i [] (omega (arith, how_many n t));
+          of_row = read ∙ ap (λ (x : List (List ℕ)). get_or x i []) w.padded ∙ key_at (states_of (length js) keys) i [] (omega (arith, how_many keys));
         }
 
-  module _ (nexts : List ℕ) (tabled : Tabled js nexts) (i s n : ℕ) (key t : List ℕ) (g : Growing js i s key n t) (small : s < 16) where
+  module _ (nexts : Nexts) (tabled : TableOf js nexts) (i s : ℕ) (key : List ℕ) (keys : List (List ℕ)) (g : Growing js i s key keys) (small : s < 16) where
     abbrev l : List (List ℕ)
-    l = states_in (length js) n t
+    l = states_of (length js) keys
 
     abbrev from : List ℕ
     from = get_or l i []
@@ -70,7 +67,7 @@ module _ (js : List (List ℕ)) (are : AreJournals js) where
     partial = g.sweeping.partial
 
     within : i < length l
-    within = omega (arith, how_many n t, g.row)
+    within = omega (arith, how_many keys, g.row)
 
     width : length from ≡ length js
     width = partial_width js limits i s l partial from (at_mem l i within)
@@ -78,15 +75,11 @@ module _ (js : List (List ℕ)) (are : AreJournals js) where
     long : length key ≡ 16
     long = ap length g.of_row ∙ key_length from (omega (arith, width, are.few))
 
-    stepped : stepped_key nexts (length js) key s ≡ place_bytes q
+    stepped : stepped_key nexts key s ≡ place_bytes q
     stepped =
-        stepped_key_lem js are nexts tabled key s (omega (arith, long, are.few)) small
+        ap (λ (k : ℕ). key_of_stepped nexts.entries k key s) tabled.many
+        ∙ stepped_key_lem js are nexts.entries tabled.entries key s (omega (arith, long, are.few)) small
         ∙ ap (λ (a : List ℕ). place_bytes (step js a s)) (ap (take (length js)) g.of_row ∙ state_back (length js) from width)
-
-    keys_after : with_key (length js) (stepped_key nexts (length js) key s) (keys_in n t) ≡ map place_bytes (keep q l)
-    keys_after =
-        ap₂ (λ (x : List ℕ) (y : List (List ℕ)). with_key (length js) x y) stepped g.sweeping.keys
-        ∙ with_keys (length js) q l (step_length js from s width) (partial_width js limits i s l partial)
 
     partial_after : Partial js i (suc s) (keep q l)
     partial_after =
@@ -99,45 +92,40 @@ module _ (js : List (List ℕ)) (are : AreJournals js) where
         (λ f. rw f)
 
     -- after the key is put in
-    module _ (k : ℕ) (e : k ≡ length js) (m : ℕ) (u : List ℕ) (after : keys_in m u ≡ with_key k (stepped_key nexts k key s) (keys_in n t)) where
-      keys_are : keys_in m u ≡ map place_bytes (keep q l)
-      keys_are = after ∙ ap (λ (x : ℕ). with_key x (stepped_key nexts x key s) (keys_in n t)) e ∙ keys_after
+    module _ (after : List (List ℕ)) (e : after ≡ with_key nexts.k (stepped_key nexts key s) keys) where
+      keys_are : after ≡ map place_bytes (keep q l)
+      keys_are =
+          e ∙ ap (λ (k : ℕ). with_key k (stepped_key nexts key s) keys) tabled.many
+          ∙ ap₂ (λ (x : List ℕ) (y : List (List ℕ)). with_key (length js) x y) stepped g.sweeping.padded
+          ∙ with_keys (length js) q l (step_length js from s width) (partial_width js limits i s l partial)
 
-      states_are : states_in (length js) m u ≡ keep q l
+      states_are : states_of (length js) after ≡ keep q l
       states_are =
           ap (map (take (length js))) keys_are ∙ states_back (length js) (keep q l) (partial_width js limits i (suc s) (keep q l) partial_after)
 
-      many : m ≡ length (keep q l)
-      many = sym (how_many m u) ∙ ap length states_are
+      many : length after ≡ length (keep q l)
+      many = sym (how_many after) ∙ ap length states_are
 
-      pub grown : Grown js i (s + 1) key m u
+      pub grown : Grown js i (s + 1) key after
       grown =
           record {
             few = λ h. record {
-              sweeping = record { room = h; partial = rw (add-one, states_are) partial_after; keys = keys_are ∙ ap (map place_bytes) (sym states_are) };
+              sweeping = record { room = h; partial = rw (add-one, states_are) partial_after; padded = keys_are ∙ ap (map place_bytes) (sym states_are) };
               row = omega (arith, many, keep_least q l, within);
               of_row = g.of_row ∙ ap place_bytes (sym row_stays ∙ ap (λ (x : List (List ℕ)). get_or x i []) (sym states_are));
             };
-            most = λ h.
-                (omega (arith, many, keep_most q l, how_many n t, g.sweeping.room), omega (arith, many, too_many js limits i (suc s) (keep q l) partial_after));
+            most = λ h. omega (arith, many, too_many js limits i (suc s) (keep q l) partial_after);
           }
 
   -- after the 16 steps of a row
-  pub row_ends : (i n : ℕ) (t : List ℕ) → Sweeping js i 16 n t → Swept js (i + 1) n t
-  row_ends i n t w =
-      record {
-        few = λ h. record { room = h; partial = rw add-one (row_done js i (states_in (length js) n t) w.partial); keys = w.keys };
-        most = λ h. absurd (omega (arith, w.room));
-      }
+  pub row_ends : (i : ℕ) (keys : List (List ℕ)) → Sweeping js i 16 keys → Sweeping js (i + 1) 0 keys
+  row_ends i keys w = record { room = w.room; partial = rw add-one (row_done js i (states_of (length js) keys) w.partial); padded = w.padded }
 
   -- after the last row
-  pub sweep_ends : (i n : ℕ) (t : List ℕ) → n ≤ i → Sweeping js i 0 n t → Found js n t
-  sweep_ends i n t h w =
-      let e : states_in (length js) n t ≡ picture js = all_done js limits i (states_in (length js) n t) (omega (arith, how_many n t)) w.partial in
-      record {
-        few = λ r. (sym (how_many n t) ∙ ap length e, w.keys ∙ ap (map place_bytes) e);
-        most = λ r. absurd (omega (arith, w.room));
-      }
+  pub sweep_ends : (i : ℕ) (keys : List (List ℕ)) → length keys ≤ i → Sweeping js i 0 keys → RowKeys js keys
+  sweep_ends i keys h w =
+      let e : states_of (length js) keys ≡ picture js = all_done js limits i (states_of (length js) keys) (omega (arith, how_many keys)) w.partial in
+      record { room = omega (arith, w.room, how_many keys, ap length e); all = w.padded ∙ ap (map place_bytes) e }
 
 -- the empty word's state, and its key
 start_state : (js : List (List ℕ)) (m : ℕ) → length js ≤ m → take (length js) (replicate m 0) ≡ state js []
@@ -152,31 +140,20 @@ start_key (j ∷ js) (suc m) h =
     let e : suc m - suc (length (state js [])) ≡ m - length (state js []) = omega arith in
     rw e (ap (λ (x : List ℕ). 0 ∷ x) (start_key js m (omega arith)))
 
--- a key put among none
-pub first_key : (key t : List ℕ) → insert key (keys_in 0 t) ≡ key ∷ []
-first_key key t = rw (no_keys t)
-
 -- The first key is that of the empty word's state.
-module _ (n : ℕ) (t : List ℕ) (first : keys_in n t ≡ replicate 16 0 ∷ []) where
-  pub one_key : n ≡ 1
-  one_key = sym (length_keys n t) ∙ ap length first
-
-  pub one_ascending : Ascending (keys_in n t)
-  one_ascending = rw first (λ b m. absurd (Memᴰ.not-nil m), tt)
-
-  pub sweep_begins : (js : List (List ℕ)) → AreJournals js → (length js ≡ 0 → ⊥) → Sweeping js 0 0 n t
-  sweep_begins [] are some = absurd (some refl)
-  sweep_begins (j ∷ js) are some =
-      let states : states_in (suc (length js)) n t ≡ state (j ∷ js) [] ∷ [] =
-      ap (map (take (suc (length js)))) first ∙ ap (λ (x : List ℕ). x ∷ []) (start_state (j ∷ js) 16 are.few) in
-      record {
-        room = omega (arith, one_key);
-        partial = rw states (sweep_start j js);
-        keys = first ∙ ap (λ (x : List ℕ). x ∷ []) (start_key (j ∷ js) 16 are.few) ∙ ap (map place_bytes) (sym states);
-      }
+pub sweep_begins : (js : List (List ℕ)) → AreJournals js → (length js ≡ 0 → ⊥) → Sweeping js 0 0 (replicate 16 0 ∷ [])
+sweep_begins [] are some = absurd (some refl)
+sweep_begins (j ∷ js) are some =
+    let states : states_of (suc (length js)) (replicate 16 0 ∷ []) ≡ state (j ∷ js) [] ∷ [] =
+    ap (λ (x : List ℕ). x ∷ []) (start_state (j ∷ js) 16 are.few) in
+    record {
+      room = omega arith;
+      partial = rw states (sweep_start j js);
+      padded = ap (λ (x : List ℕ). x ∷ []) (start_key (j ∷ js) 16 are.few) ∙ ap (map place_bytes) (sym states);
+    }
 
 -- no journals have no live state
-pub none_found : (js : List (List ℕ)) (t : List ℕ) → length js ≡ 0 → Found js 0 t
+pub none_found : (js : List (List ℕ)) → length js ≡ 0 → RowKeys js []
 unfolding picture
-none_found [] t e = record { few = λ h. (refl, no_keys t); most = λ h. absurd (omega arith) }
-none_found (j ∷ js) t e = absurd (omega arith)
+none_found [] e = record { room = omega arith; all = refl }
+none_found (j ∷ js) e = absurd (omega arith)

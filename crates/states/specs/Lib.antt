@@ -1,3 +1,4 @@
 pub mod Nexts
+pub mod Table
 pub mod Stepped
 pub mod Found

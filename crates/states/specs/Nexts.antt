@@ -2,7 +2,6 @@
 use Rattle.std.specs.Prelude.{ℕ, ◌+◌, ◌*◌, ◌/◌, ◌%◌, ◌<◌, ◌≡◌, cond, List, [], length, get_or, ltb, eqb}
 use Rattle.words.specs.Limits.{step_codes, longest_journal, most_journals, lost}
 use Rattle.words.specs.Places.{next}
-use Rattle.words.specs.Words.{AreJournals}
 
 -- the entries of one journal: 201 places by 16 steps
 abbrev pub nexts_of_one : ℕ
@@ -23,7 +22,3 @@ NextsOf j entries = (x : ℕ) → x < nexts_of_one → get_or entries x 0 ≡ ne
 -- and so for each of the journals, one after the other
 abbrev pub Tabled : List (List ℕ) → List ℕ → Type 0
 Tabled js nexts = (i x : ℕ) → i < length js → x < nexts_of_one → get_or nexts (nexts_of_one * i + x) 0 ≡ next (get_or js i []) (x / step_codes) (x % step_codes)
-
--- P holds of the k journals whose table this is, whichever they are
-abbrev pub AnyTabled : List ℕ → ℕ → (List (List ℕ) → Type 0) → Type 0
-AnyTabled nexts k P = (js : List (List ℕ)) → AreJournals js → length js ≡ k → Tabled js nexts → P js

@@ -2,19 +2,27 @@
 
 ghost use Rattle.std.specs.Prelude.{◌≡◌, true, cond, ◌+◌, ◌≤◌, ◌<◌, length, get_or, ltb};
 ghost use Rattle.records.specs.JournalBook.{journal_form, journals_of};
-ghost use Rattle.words.specs.Limits.{step_codes, longest_journal, lost};
-ghost use Rattle.states.specs.Nexts.{nexts_of_one, nexts_of_all, next_entry, NextsOf, Tabled};
+ghost use Rattle.words.specs.Limits.{step_codes, longest_journal, most_journals, lost};
+ghost use Rattle.states.specs.Nexts.{nexts_of_one, next_entry, NextsOf};
 
 use words::{JOURNALS, LONGEST_JOURNAL, LOST, STEP_CODES};
 
 // The entries of one journal: 201 places by 16 steps.
-pub const NEXTS: usize = (LONGEST_JOURNAL + 1) * STEPS;
+pub(crate) const NEXTS: usize = (LONGEST_JOURNAL + 1) * STEPS;
 
 // The entries of all journals.
-pub const ALL_NEXTS: usize = JOURNALS * NEXTS;
+pub(crate) const ALL_NEXTS: usize = JOURNALS * NEXTS;
 
 // The entries of one place, one for each step.
-pub const STEPS: usize = STEP_CODES as usize;
+pub(crate) const STEPS: usize = STEP_CODES as usize;
+
+// The entries of k journals, one after the other.
+#[derive(Drop)]
+pub struct Nexts {
+    pub(crate) entries: [u8; ALL_NEXTS],
+    pub(crate) k: usize,
+    ghost few: { k ≤ most_journals },
+}
 
 // The entry one place further on, or lost behind the last.
 fn further_on(entries: &[u8], x: usize) -> u8
@@ -27,6 +35,7 @@ fn further_on(entries: &[u8], x: usize) -> u8
     LOST
 }
 
+#[tactic(auto, unfolding(crate::specs::Nexts::next_entry))]
 // Entry x of a journal, from the entry one place further on.
 fn next_entry(steps: &[u8], x: usize, further: u8) -> u8
     requires { length steps.now ≤ longest_journal }
@@ -47,24 +56,26 @@ fn fill_nexts(steps: &[u8], entries: &mut [u8])
     requires { (length steps.now ≤ longest_journal) × (length entries.old ≡ nexts_of_one) }
     ensures { NextsOf steps.now entries.new }
 {
-    let mut x = NEXTS;
-    while 0 < x {
-        x -= 1;
+    for x in (0..NEXTS).rev() {
         let further = further_on(entries, x);
         entries[x] = next_entry(steps, x, further);
     }
 }
 
-// Fills in the table of all k journals.
-pub fn tabulate(journals: &[u8], k: usize, nexts: &mut [u8])
-    requires { (journal_form journals.now ≡ true) × (k ≡ length (journals_of journals.now)) × (length nexts.old ≡ nexts_of_all) }
-    ensures { Tabled (journals_of journals.now) nexts.new }
-{
-    let mut i = 0;
-    while i < k {
-        let a = NEXTS * i;
-        let e = a + NEXTS;
-        fill_nexts(journal::journal_at(journals, i), &mut nexts[a..e]);
-        i += 1;
+impl Nexts {
+    ghost use Rattle.states.specs.Table.{TableOf};
+
+    // The table of the journals of a book.
+    pub fn of(journals: &[u8]) -> Self
+        requires { journal_form journals.now ≡ true }
+        ensures { TableOf (journals_of journals.now) result }
+    {
+        let k = journal::open_count(journals);
+        let mut entries = [0; ALL_NEXTS];
+        for i in 0..k {
+            let a = NEXTS * i;
+            fill_nexts(journal::journal_at(journals, i), &mut entries[a..a + NEXTS]);
+        }
+        Nexts { entries, k }
     }
 }
