@@ -1,5 +1,5 @@
 -- A word is in where its first step is found and the rest is in what follows. By induction over the journal. Assumes nothing.
-use Rattle.std.proofs.Common.{◌≡◌, ◌≢◌, ℕ, zero, suc, ◌+◌, ◌<◌, ◌≤◌, Bool, true, false, List, [], ◌∷◌, length, take, drop, get_or, refl, ◌∙◌, arith, add-one, ne_eqb, eq-eqb}
+use Rattle.std.proofs.Common.{◌≡◌, ◌≢◌, ℕ, zero, suc, ◌+◌, ◌<◌, ◌≤◌, false, List, [], ◌∷◌, length, drop, get_or, refl, arith, add-one, ne_eqb, eq-eqb}
 use Rattle.words.specs.Words.{is_in}
 
 -- behind the first s, at k

@@ -1,12 +1,12 @@
 -- Journal i of a book of the form is a part of record i: as many steps as its length byte says, from its byte 2 on. The form keeps each within 200 steps, so
 -- that none is longer than its record. Assumes nothing.
-use Rattle.std.proofs.Common.{◌≡◌, ℕ, zero, suc, ◌+◌, ◌-◌, ◌≤◌, ◌<◌, true, cond, List, [], ◌∷◌, length, take, drop, get_or, length-take, length-drop, add-one, refl, sym, ap, ◌∙◌, arith}
+use Rattle.std.proofs.Common.{◌≡◌, ℕ, zero, suc, ◌+◌, ◌-◌, ◌≤◌, ◌<◌, true, cond, List, [], ◌∷◌, length, take, drop, get_or, length-take, add-one, refl, sym, ap, ◌∙◌, arith}
 use Rattle.std.proofs.Math.ListN.{drop_of_length-le}
 use Rattle.std.proofs.Math.Seq.{drop-cons}
 use Rattle.words.specs.Words.{IsJournal, EachJournal, is_in, count}
 use Rattle.words.proofs.Test.{test}
 use Rattle.records.specs.StepBytes.{steps_of}
-use Rattle.records.specs.JournalBook.{open_ones, journals_of, journal_form}
+use Rattle.records.specs.JournalBook.{journals_of, journal_form}
 use Rattle.records.proofs.Form.{form_book, book_length}
 use Rattle.journal.specs.Records.{records_of}
 use Rattle.journal.proofs.Records.{sixteen, wide, open_of, open_few, open_at}
@@ -40,11 +40,15 @@ module _ (b : List ℕ) (t : journal_form b ≡ true) (i : ℕ) (h : i < length 
   record_steps : get_or (journals_of b) i [] ≡ steps_of (drop 1 (get_or (records_of b) i []))
   record_steps = rw (open_of b) (open_at (records_of b) i (rw (open_of b) at h))
 
-  -- the length byte
+  -- a journal has at most 200 steps
+  pub journal_short : length (get_or (journals_of b) i []) ≤ 200
+  journal_short = (each_at (journals_of b) (form_book b t).0.each i h).0
+
+  -- and so does its length byte say
   pub length_byte : get_or (get_or (records_of b) i []) 1 0 ≤ 200
   length_byte =
       short_byte (get_or (records_of b) i []) (wide b i (form_size b t) (omega (arith, few b)))
-      (omega (arith, (each_at (journals_of b) (form_book b t).0.each i h).0, ap length record_steps))
+      (omega (arith, journal_short, ap length record_steps))
 
   -- the journal
   pub journal_at : take (2 + get_or (get_or (records_of b) i []) 1 0 - 2) (drop 2 (get_or (records_of b) i [])) ≡ get_or (journals_of b) i []

@@ -1,5 +1,5 @@
 -- The next journal opened, and a step put at the end of a journal that has room for it: the book after it. Assumes nothing.
-use Rattle.std.proofs.Common.{◌≡◌, ℕ, ◌+◌, ◌*◌, ◌<◌, true, List, length, set, sym, ap, ◌∙◌}
+use Rattle.std.proofs.Common.{◌≡◌, ℕ, ◌+◌, ◌*◌, ◌<◌, true, List, length, set, ap, ◌∙◌}
 use Rattle.words.specs.Journals.{opened, appended_at, steps_at}
 use Rattle.records.specs.JournalBook.{journal_form, journals_of, journal_book}
 use Rattle.records.proofs.Form.{form_book}

@@ -1,6 +1,6 @@
 -- The records of a book: they are its parts of 256 bytes, the first wrong of them is the book's, and those that are open hold its journals. By
 -- induction over the records. Assumes nothing.
-use Rattle.std.proofs.Common.{◌≡◌, ◌≢◌, ℕ, zero, suc, ◌+◌, ◌*◌, ◌/◌, ◌≤◌, ◌<◌, Bool, true, false, cond, List, [], ◌∷◌, length, take, drop, get_or, length-take, length-drop, nat_eq, refl, ne_eqb, eq-eqb, add-one, Option, Some, None, MatchOption, unwrap_or, sym, ap, ◌∙◌, arith}
+use Rattle.std.proofs.Common.{◌≡◌, ◌≢◌, ℕ, zero, suc, ◌+◌, ◌*◌, ◌/◌, ◌≤◌, ◌<◌, Bool, true, false, List, [], ◌∷◌, length, take, drop, get_or, length-take, length-drop, refl, ne_eqb, eq-eqb, add-one, Option, Some, None, MatchOption, unwrap_or, ap, arith}
 use Rattle.std.proofs.Math.Seq.{drop-cons}
 use Rattle.std.proofs.Math.ListN.{drop_of_length-le}
 use Rattle.std.specs.Simd.{first_chunks}
@@ -8,7 +8,6 @@ use Rattle.words.proofs.Test.{test}
 use Rattle.records.specs.Bytes.{records}
 use Rattle.records.specs.StepBytes.{steps_of}
 use Rattle.records.specs.JournalBook.{is_open, wrong_record, first_wrong, first_wrong_record, journal_form, open_ones, journals_of}
-use Rattle.records.proofs.Tests.{both}
 use Rattle.journal.specs.Records.{records_of}
 
 -- the parts of m bytes

@@ -33,7 +33,10 @@ impl<'a> JournalBook<'a> {
     pub fn open_count(&self) -> usize
         ensures { result ≡ length (journals_of self.now.bytes.now) }
     {
-        records(self.bytes).iter().position(|r| r[0] != 1).unwrap_or(JOURNALS)
+        records(self.bytes)
+            .iter()
+            .position(|r| r[0] != 1)
+            .unwrap_or(JOURNALS)
     }
 
     // The number of the journal opened last, and 0 where there is none.

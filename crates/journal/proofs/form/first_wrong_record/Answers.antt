@@ -1,5 +1,4 @@
-use Rattle.std.proofs.Common.{◌≡◌, ◌+◌, ◌<◌, length, drop, zero-add, sym, ap, ◌∙◌, arith}
-use Rattle.records.specs.JournalBook.{first_wrong}
+use Rattle.std.proofs.Common.{length, zero-add, sym, ap, ◌∙◌, arith}
 use Rattle.journal.proofs.Records.{wrong_of, wrong_here, wrong_next, wrong_end, form_right, form_wrong, sixteen}
 use Rattle.journal.proofs.form.first_wrong_record.Goals as goal
 

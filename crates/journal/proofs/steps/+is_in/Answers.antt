@@ -1,4 +1,4 @@
-use Rattle.std.proofs.Common.{◌≡◌, ◌≢◌, ◌+◌, ◌-◌, ◌<◌, ℕ, List, length, take, drop, get_or, sym, ap, ◌∙◌, rules}
+use Rattle.std.proofs.Common.{◌≡◌, ◌≢◌, ◌+◌, ◌<◌, ℕ, length, get_or, sym, ap₂, ◌∙◌, rules}
 use Rattle.std.proofs.lemmas.List.{take_rest}
 use Rattle.std.proofs.iter.runs.Made.{chains}
 use Rattle.words.specs.Words.{is_in}
@@ -13,7 +13,7 @@ returns-in-Some t c =
     let h : k < length j = search (rules, chains) in
     let e : get_or j k 0 ≡ get_or w 0 0 = search (rules, chains) in
     let n : (m : ℕ) → m < k → get_or j m 0 ≢ get_or w 0 0 = search (rules, chains) in
-    (rw (take_rest w 1, take_rest j (k + 1)) at c.is_in.ensures) ∙ sym (in_found w j k c.in-len1-up.len_at_least h e n)
+    c.is_in.ensures ∙ ap₂ is_in (take_rest w 1) (take_rest j (k + 1)) ∙ sym (in_found w j k c.in-len1-up.len_at_least h e n)
 
 pub returns-in-None : goal.returns-in-None
 returns-in-None t c =
