@@ -1,5 +1,5 @@
 -- Table count: what is read at the end of a walk along the arcs of a row book. Assumes nothing.
-use Rattle.std.specs.Prelude.{ℕ, Bool, true, false, not, List, [], ◌∷◌, length, eqb, Some, None, Ok, Err, is_err}
+use Rattle.std.specs.Prelude.{ℕ, Bool, not, List, [], ◌∷◌, length, eqb, Some, None, Ok, Err, is_err}
 use Rattle.words.specs.Limits.{step_codes}
 use Rattle.records.specs.Sizes.{row_book_size}
 use Rattle.books.specs.Numbers.{Refusal, first, wrong_size, damaged, wrong_step, unless}

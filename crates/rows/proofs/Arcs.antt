@@ -9,7 +9,7 @@ use mathlib.Core.List.{List, [], ◌∷◌}
 use Rattle.std.specs.Prelude.{Some, Ok}
 use lib.ListN.{length, get_or, drop, drop_of_length-le}
 use lib.Dec.{eqb, ltb, leb}
-use borrow.Author.Tests.{leb-false}
+use borrow.Author.Tests.{eqb-true, leb-false}
 use Rattle.words.specs.Limits.{most_journals}
 use Rattle.words.proofs.Test.{test}
 use Rattle.records.specs.Sizes.{most_rows}
@@ -41,7 +41,7 @@ pub ruleset walk_steps = (from_step, from_end, good_row, step_code)
 along_row : (b : List ℕ) (r t q : ℕ) (rest : Walked) → along b r t rest ≡ Ok (Some q) → (t < most_rows) × (rest ≡ Ok (Some q))
 unfolding along
 along_row b r t q rest e =
-    test (eqb t 0) (λ y. let z = rw y at e in cc)
+    test (eqb t 0) (λ y. (omega (arith, eqb-true t 0 y), let z = rw y at e in cc))
     (λ n. test (bad_arc b r t) (λ y. let z = rw (n, y) at e in cc) (λ m. (good_row b r t m, rw (n, m) at e)))
 
 from_row : (b : List ℕ) (r : ℕ) (w : List ℕ) (q : ℕ) → r < most_rows → walk_from b r w ≡ Ok (Some q) → q < most_rows
