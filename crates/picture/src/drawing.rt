@@ -3,20 +3,20 @@
 
 ghost use Rattle.std.specs.Prelude.{◌≡◌, ◌≤◌, length};
 ghost use Rattle.records.specs.RowBook.{book_of};
-ghost use Rattle.records.specs.Sizes.{row_book_size, most_rows};
+ghost use Rattle.records.specs.Sizes.{most_rows};
 ghost use Rattle.picture.specs.KeyRow.{key_book};
 ghost use Rattle.picture.specs.Laid.{laid};
 
 use crate::arcs::step_row;
 use keys::Keys;
-use records::ROW_RECORD;
-use rows::{read_row, write_row};
+use records::{ROW_BOOK, ROW_RECORD};
+use rows::Row;
 use states::Nexts;
 use words::JOURNALS;
 
 // Lays a record for each of the states, with its places and nothing else, and zeros behind them.
-fn lay_rows(keys: &Keys, rows: &mut [u8])
-    requires { (length keys.now ≤ most_rows) × (length rows.old ≡ row_book_size) }
+fn lay_rows(keys: &Keys, rows: &mut [u8; ROW_BOOK])
+    requires { length keys.now ≤ most_rows }
     ensures { rows.new ≡ book_of laid keys.now }
 {
     rows.fill(0);
@@ -27,14 +27,12 @@ fn lay_rows(keys: &Keys, rows: &mut [u8])
 }
 
 // Draws the rows of the states, and zeros behind them.
-pub(crate) fn draw_rows(nexts: &Nexts, keys: &Keys, rows: &mut [u8])
-    requires { (length keys.now ≤ most_rows) × (length rows.old ≡ row_book_size) }
+pub(crate) fn draw_rows(nexts: &Nexts, keys: &Keys, rows: &mut [u8; ROW_BOOK])
+    requires { length keys.now ≤ most_rows }
     ensures { rows.new ≡ key_book nexts.now keys.now }
 {
     lay_rows(keys, rows);
     for i in (0..keys.len()).rev() {
-        let laid = read_row(rows, i);
-        let row = step_row(nexts, keys, laid);
-        write_row(rows, ROW_RECORD * i, row);
+        step_row(nexts, keys, Row::read(rows, i)).write(rows, i);
     }
 }

@@ -1,10 +1,11 @@
 // The table of next places, so that stepping a place reads one byte and no journal.
 
-ghost use Rattle.std.specs.Prelude.{◌≡◌, true, cond, ◌+◌, ◌≤◌, ◌<◌, length, get_or, ltb};
-ghost use Rattle.records.specs.JournalBook.{journal_form, journals_of};
+ghost use Rattle.std.specs.Prelude.{◌≡◌, cond, ◌+◌, ◌≤◌, ◌<◌, length, get_or, ltb};
+ghost use Rattle.records.specs.JournalBook.{journals_of};
 ghost use Rattle.words.specs.Limits.{step_codes, longest_journal, most_journals, lost};
 ghost use Rattle.states.specs.Nexts.{nexts_of_one, next_entry, NextsOf};
 
+use journal::JournalBook;
 use words::{JOURNALS, LONGEST_JOURNAL, LOST, STEP_CODES};
 
 // The entries of one journal: 201 places by 16 steps.
@@ -35,8 +36,8 @@ fn further_on(entries: &[u8], x: usize) -> u8
     LOST
 }
 
-#[tactic(auto, unfolding(crate::specs::Nexts::next_entry))]
 // Entry x of a journal, from the entry one place further on.
+#[tactic(auto, unfolding(crate::specs::Nexts::next_entry))]
 fn next_entry(steps: &[u8], x: usize, further: u8) -> u8
     requires { length steps.now ≤ longest_journal }
     ensures { result ≡ next_entry steps.now x further }
@@ -66,15 +67,14 @@ impl Nexts {
     ghost use Rattle.states.specs.Table.{TableOf};
 
     // The table of the journals of a book.
-    pub fn of(journals: &[u8]) -> Self
-        requires { journal_form journals.now ≡ true }
-        ensures { TableOf (journals_of journals.now) result }
+    pub fn of(journals: &JournalBook<'_>) -> Self
+        ensures { TableOf (journals_of journals.now.bytes.now) result }
     {
-        let k = journal::open_count(journals);
+        let k = journals.open_count();
         let mut entries = [0; ALL_NEXTS];
         for i in 0..k {
             let a = NEXTS * i;
-            fill_nexts(journal::journal_at(journals, i), &mut entries[a..a + NEXTS]);
+            fill_nexts(journals.journal_at(i), &mut entries[a..a + NEXTS]);
         }
         Nexts { entries, k }
     }

@@ -19,29 +19,29 @@ journals b t = (form_book b t).0
 
 pub returns-in_err-keys-clause-found : goal.returns-in_err-keys-clause-found
 returns-in_err-keys-clause-found c =
-    let js = journals_of c.args.journals.now in
-    c.from_residual.ensures ∙ says_many js (c.in_err-keys.ensures js (journals _ c.requires.0) c.of-nexts.ensures)
+    let js = journals_of c.args.journals.now.bytes.now in
+    c.from_residual.ensures ∙ says_many js (c.in_err-keys.ensures js (journals _ c.args.journals.now.form) c.of-nexts.ensures)
 
 pub returns-in_err-keys-clause-rows_after : goal.returns-in_err-keys-clause-rows_after
 returns-in_err-keys-clause-rows_after c =
-    let js = journals_of c.args.journals.now in
-    sym (drawn_many js c.args.rows.now (c.in_err-keys.ensures js (journals _ c.requires.0) c.of-nexts.ensures))
+    let js = journals_of c.args.journals.now.bytes.now in
+    sym (drawn_many js c.args.rows.now (c.in_err-keys.ensures js (journals _ c.args.journals.now.form) c.of-nexts.ensures))
 
 pub draw_rows-requires : goal.draw_rows-requires
 draw_rows-requires c =
-    let js = journals_of c.args.journals.now in
-    let few = c.in_ok-keys.ensures js (journals _ c.requires.0) c.of-nexts.ensures in
-    (omega (arith, few.room, keys_many js c.in_ok-keys.keys few.all), c.requires.1)
+    let js = journals_of c.args.journals.now.bytes.now in
+    let few = c.in_ok-keys.ensures js (journals _ c.args.journals.now.form) c.of-nexts.ensures in
+    omega (arith, few.room, keys_many js c.in_ok-keys.keys few.all)
 
 pub returns-clause-found : goal.returns-clause-found
 returns-clause-found c =
-    let js = journals_of c.args.journals.now in
-    let few = c.in_ok-keys.ensures js (journals _ c.requires.0) c.of-nexts.ensures in
+    let js = journals_of c.args.journals.now.bytes.now in
+    let few = c.in_ok-keys.ensures js (journals _ c.args.journals.now.form) c.of-nexts.ensures in
     ap (λ (n : ℕ). Some n) (c.len.ensures.many ∙ keys_many js c.in_ok-keys.keys few.all) ∙ says_few js few.room
 
 pub returns-clause-rows_after : goal.returns-clause-rows_after
 returns-clause-rows_after c =
-    let js = journals_of c.args.journals.now in
-    let are = journals _ c.requires.0 in
+    let js = journals_of c.args.journals.now.bytes.now in
+    let are = journals _ c.args.journals.now.form in
     let few = c.in_ok-keys.ensures js are c.of-nexts.ensures in
     c.draw_rows.ensures ∙ keys_book js are c.of-nexts.result c.of-nexts.ensures c.in_ok-keys.keys few.all ∙ sym (drawn_few js c.args.rows.now few.room)

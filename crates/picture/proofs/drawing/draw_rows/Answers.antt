@@ -20,10 +20,10 @@ loop-i-preserved c =
     let nexts = c.args.nexts.now in
     let keys = c.args.keys.now in
     let l = c.loop-i in
-    let read = c.read_row-laid in
-    let y = c.step_row-row.ensures in
+    let read = c.read in
+    let y = c.step_row.ensures in
     let i = l.i - 1 in
     let b : i < length keys = omega (arith, c.len-i.ensures.many) in
     let e : l.i ≡ i + 1 = omega arith in
-    c.write_row.ensures
+    c.write.ensures
     ∙ links nexts keys c.len-i.ensures.keys.wide i b l.rows read.result.places _ _ _ (l.invariant ∙ ap (linked nexts keys) e) read.ensures.0 y.places y.arcs y.count

@@ -4,6 +4,7 @@ use mathlib.Core.Path.{◌≡◌, ap, sym, ◌∙◌}
 use lib.ListN.{length, replicate}
 use Rattle.std.proofs.Common.{rules}
 use Rattle.records.specs.RowBook.{unused}
+use Rattle.records.specs.Sizes.{row_book_size}
 use Rattle.picture.proofs.Laid.{laid_from, laid_start, lays}
 use Rattle.picture.proofs.drawing.lay_rows.Goals as goal
 
@@ -11,7 +12,8 @@ pub loop-r-init : goal.loop-r-init
 loop-r-init c =
     let keys = c.args.keys.now in
     let zero : c.fill.new.self ≡ replicate (length c.args.rows.now) 0 = search rules in
-    zero ∙ ap (λ (m : ℕ). replicate m 0) c.requires.1 ∙ laid_start keys c.requires.0 ∙ ap (laid_from keys) (sym c.len-r.ensures.many)
+    let size : length c.args.rows.now ≡ row_book_size = search rules in
+    zero ∙ ap (λ (m : ℕ). replicate m 0) size ∙ laid_start keys c.requires ∙ ap (laid_from keys) (sym c.len-r.ensures.many)
 
 pub loop-r-preserved : goal.loop-r-preserved
 loop-r-preserved c =

@@ -3,27 +3,24 @@ use native.Mathlib.Omega.{arith}
 use mathlib.Core.Path.{ap, ◌∙◌}
 use lib.ListN.{length}
 use Rattle.records.specs.JournalBook.{journals_of}
-use Rattle.journal.proofs.Journals.{form_size, form_few, journal_short}
+use Rattle.journal.proofs.Journals.{few, journal_short}
 use Rattle.states.proofs.Entries.{part_size, right_put}
 use Rattle.states.proofs.nexts.Nexts.of.Goals as goal
 
-pub open_count-k-requires : goal.open_count-k-requires
-open_count-k-requires c = form_size c.args.journals.now c.requires
-
 pub loop-i-init : goal.loop-i-init
-loop-i-init c = record { few = omega (arith, c.open_count-k.ensures, form_few c.args.journals.now c.requires); right = λ i x h to. omega arith }
+loop-i-init c = record { few = omega (arith, c.open_count-k.ensures, few c.args.journals.now.bytes.now); right = λ i x h to. omega arith }
 
 pub fill_nexts-requires : goal.fill_nexts-requires
 fill_nexts-requires c =
     let a = c.args in
     let l = c.loop-i in (
-      omega (arith, ap length c.journal_at.ensures, journal_short a.journals.now c.requires l.i (omega arith)),
+      omega (arith, ap length c.journal_at.ensures, journal_short a.journals.now.bytes.now a.journals.now.form l.i (omega arith)),
       part_size (3216 * l.i) 3216 l.entries (omega arith),
     )
 
 pub loop-i-preserved : goal.loop-i-preserved
 loop-i-preserved c =
-    let js = journals_of c.args.journals.now in
+    let js = journals_of c.args.journals.now.bytes.now in
     let l = c.loop-i in
     let within : 3216 * l.i + 3216 ≤ length l.entries = omega arith in
     record {

@@ -6,4 +6,4 @@ use Rattle.states.proofs.Entries.{RightBelow}
 use Rattle.states.proofs.nexts.Nexts.of.Given as goal
 
 abbrev pub invariant-loop-i : goal.invariant-loop-i
-invariant-loop-i l = record { few : l.k ≤ 16; right : RightBelow (journals_of l.journals) l.i l.entries }
+invariant-loop-i l = record { few : l.k ≤ 16; right : RightBelow (journals_of l.journals.bytes.now) l.i l.entries }
