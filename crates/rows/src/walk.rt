@@ -1,6 +1,6 @@
 // The walk along the arcs of a row book: where a word leads from row 0, whatever the book holds. What is read at its end
 // is another matter.
-ghost use Rattle.std.specs.Prelude.{◌≡◌, true, ◌<◌};
+ghost use Rattle.std.specs.Prelude.{◌≡◌, true, ◌<◌, IfOk, IfSome};
 ghost use Rattle.words.specs.Limits.{step_codes};
 ghost use Rattle.records.specs.Sizes.{most_rows};
 ghost use Rattle.records.specs.Bytes.{all_below};
@@ -29,7 +29,8 @@ fn bad_arc(rows: &[u8; ROW_BOOK], r: usize, t: usize) -> bool
 #[tactic(auto, using(crate::proofs::Arcs::walk_steps), unfolding(crate::specs::Walk::along))]
 fn walk_from(rows: &[u8; ROW_BOOK], row: usize, word: &[u8]) -> Result<Option<usize>, Damaged>
     requires { (row < most_rows) × (all_below step_codes word.now ≡ true) }
-    ensures { result ≡ walk_from rows.now row word.now }
+    ensures ends { result ≡ walk_from rows.now row word.now }
+    ensures in_book { IfOk result (λ end. IfSome end (λ r. r < most_rows)) }
 {
     let mut r = row;
     for s in word {
@@ -49,7 +50,8 @@ fn walk_from(rows: &[u8; ROW_BOOK], row: usize, word: &[u8]) -> Result<Option<us
 #[tactic(auto, unfolding(crate::specs::Walk::walk))]
 pub fn walk_to(rows: &[u8; ROW_BOOK], word: &[u8]) -> Result<Option<usize>, Damaged>
     requires { all_below step_codes word.now ≡ true }
-    ensures { result ≡ walk rows.now word.now }
+    ensures ends { result ≡ walk rows.now word.now }
+    ensures in_book { IfOk result (λ end. IfSome end (λ r. r < most_rows)) }
 {
     let count = usize::from(count_at(rows, 0));
     if JOURNALS < count {
