@@ -8,7 +8,7 @@ ghost use Rattle.picture.specs.KeyRow.{key_arc, key_arcs};
 use keys::{Key, Keys};
 use rows::Row;
 use states::Nexts;
-use words::STEP_CODES;
+use std::array;
 
 // The arc of a key under step s: the row number of the state that it leads to, and 0 if that isn't live.
 #[tactic(auto, unfolding(crate::specs::KeyRow::key_arc))]
@@ -29,14 +29,9 @@ pub(crate) fn step_row(nexts: &Nexts, keys: &Keys, row: Row) -> Row
     ensures arcs { result.arcs ≡ key_arcs nexts.now keys.now row.places }
     ensures count { result.count ≡ count_byte (take nexts.now.k row.places) }
 {
-    let places = row.places;
-    let mut arcs = row.arcs;
-    for s in 0..STEP_CODES {
-        arcs[s as usize] = arc_of(nexts, keys, places, s);
-    }
     Row {
-        places,
-        arcs,
-        count: nexts.count_of(places),
+        places: row.places,
+        arcs: array::from_fn(|s| arc_of(nexts, keys, row.places, s as u8)),
+        count: nexts.count_of(row.places),
     }
 }
