@@ -5,8 +5,6 @@ const HALVES: [u32; 16] = [
     0xedb88320, 0xf00f9344, 0xd6d6a3e8, 0xcb61b38c, 0x9b64c2b0, 0x86d3d2d4, 0xa00ae278, 0xbdbdf21c,
 ];
 
-const ALL_ONES: u32 = 0xffffffff;
-
 // The remainder with half a byte more.
 fn with_half(remainder: u32) -> u32 {
     let low = (remainder % 16) as usize;
@@ -15,21 +13,12 @@ fn with_half(remainder: u32) -> u32 {
 
 // The remainder with a byte more.
 fn with_byte(remainder: u32, byte: u8) -> u32 {
-    with_half(with_half(remainder ^ byte as u32))
-}
-
-// A digest as a number to print.
-fn whole(digest: u32) -> u64 {
-    digest as u64
+    with_half(with_half(remainder ^ u32::from(byte)))
 }
 
 // The digest of some bytes.
-pub fn digest(bytes: &[u8]) -> u64 {
-    let mut remainder = ALL_ONES;
-    let mut i = 0;
-    while i < bytes.len() {
-        remainder = with_byte(remainder, bytes[i]);
-        i += 1;
-    }
-    whole(remainder ^ ALL_ONES)
+pub fn digest(bytes: &[u8]) -> u32 {
+    !bytes
+        .iter()
+        .fold(u32::MAX, |remainder, &byte| with_byte(remainder, byte))
 }

@@ -1,93 +1,58 @@
 // Records as they are printed. Of a row record its places, the arcs that aren't 0 as STEP:ROW, its count, and what stands behind;
 // of a word record its length and its steps.
 
-ghost use Rattle.std.specs.Prelude.{◌≡◌, ◌≤◌, length};
+use crate::print::Bytes;
+use records::{ARCS, COUNT, ROW_RECORD, WORD_RECORD};
+use std::fmt;
 
-use crate::print::{field, print_bytes, say, wide};
-use records::{ARCS, COUNT, LONGEST_WORD, WORD_RECORD};
-use std::io;
-use std::io::Write;
+// The arcs of a row record.
+#[derive(Clone, Copy)]
+struct Arcs<'a>(&'a [u8]);
 
-// Pages of up to so many words are printed word by word.
-const FEW: usize = 8;
+// A whole row record.
+#[derive(Clone, Copy)]
+pub struct Row<'a>(pub &'a [u8; ROW_RECORD]);
 
-// Prints an arc if there is one.
-fn print_arc<W: Write>(out: &mut W, step: usize, low: u8, high: u8) -> io::Result<()> {
-    let arc = (wide(high) << 8) | wide(low);
-    if arc != 0 {
-        field(out, b" ", step as u64)?;
-        field(out, b":", arc)?;
-    }
-    Ok(())
-}
+// Some word records.
+#[derive(Clone, Copy)]
+pub struct Words<'a>(pub &'a [u8]);
 
-// Prints the arcs of a row record.
-fn print_arcs<W: Write>(out: &mut W, bytes: &[u8]) -> io::Result<()>
-    requires { length bytes.now ≡ 64 }
-{
-    let mut step = 0;
-    while step < 16 {
-        let at = ARCS + 2 * step;
-        print_arc(out, step, bytes[at], bytes[at + 1])?;
-        step += 1;
-    }
-    Ok(())
-}
-
-// Prints a whole row record.
-pub fn print_row<W: Write>(out: &mut W, bytes: &[u8]) -> io::Result<()>
-    requires { length bytes.now ≡ 64 }
-{
-    say(out, b", places")?;
-    print_bytes(out, &bytes[..ARCS])?;
-    say(out, b", arcs")?;
-    print_arcs(out, bytes)?;
-    field(out, b", count ", wide(bytes[COUNT]))?;
-    say(out, b", then")?;
-    print_bytes(out, &bytes[COUNT + 1..])
-}
-
-// How many bytes of a word record are its length and its steps; all of them if the length is too large.
-fn used(length: u8) -> usize
-    ensures { result ≤ 16 }
-{
-    if length as usize > LONGEST_WORD {
-        return WORD_RECORD;
-    }
-    length as usize + 1
-}
-
-// Prints a word's length and steps.
-fn print_word<W: Write>(out: &mut W, word: &[u8]) -> io::Result<()>
-    requires { length word.now ≡ 16 }
-{
-    let n = used(word[0]);
-    say(out, b" |")?;
-    print_bytes(out, &word[..n])
-}
-
-// Prints each word of some word records.
-fn print_words<W: Write>(out: &mut W, words: &[u8]) -> io::Result<()> {
-    let mut at = 0;
-    while at < words.len() {
-        if words.len() - at < WORD_RECORD {
-            return Ok(());
+impl fmt::Display for Arcs<'_> {
+    fn fmt<W: fmt::Write>(&self, f: &mut fmt::Formatter<W>) -> fmt::Result {
+        let (arcs, _) = self.0.as_chunks::<2>();
+        for (step, arc) in arcs.iter().enumerate() {
+            let row = u16::from_le_bytes(*arc);
+            if row != 0 {
+                write!(f, " {step}:{row}")?;
+            }
         }
-        let end = at + WORD_RECORD;
-        print_word(out, &words[at..end])?;
-        at = end;
+        Ok(())
     }
-    Ok(())
 }
 
-// Prints the words that were written, if they are few and fit the room.
-pub fn print_few<W: Write>(out: &mut W, written: usize, room: &[u8]) -> io::Result<()> {
-    if written > FEW {
-        return Ok(());
+impl fmt::Display for Row<'_> {
+    fn fmt<W: fmt::Write>(&self, f: &mut fmt::Formatter<W>) -> fmt::Result {
+        let record = self.0;
+        let places = Bytes(&record[..ARCS]);
+        let arcs = Arcs(&record[ARCS..COUNT]);
+        let count = record[COUNT];
+        let rest = Bytes(&record[COUNT + 1..]);
+        write!(f, ", places{places}, arcs{arcs}, count {count}, then{rest}")
     }
-    let end = WORD_RECORD * written;
-    if room.len() < end {
-        return Ok(());
+}
+
+// The length and the steps of a word record; all of it if the length is too large.
+fn used(word: &[u8; WORD_RECORD]) -> &[u8] {
+    let length = usize::from(word[0]);
+    word.get(..=length).unwrap_or(word)
+}
+
+impl fmt::Display for Words<'_> {
+    fn fmt<W: fmt::Write>(&self, f: &mut fmt::Formatter<W>) -> fmt::Result {
+        let (words, _) = self.0.as_chunks::<WORD_RECORD>();
+        for word in words {
+            write!(f, " |{}", Bytes(used(word)))?;
+        }
+        Ok(())
     }
-    print_words(out, &room[..end])
 }

@@ -1,140 +1,135 @@
-// One command: its numbers and bytes taken apart, and what it does.
+// The commands: the calls of the books, and what is done with the rooms. Each is read from its line.
 
-use crate::list_page::page;
-use crate::row::row;
-use crate::{calls, room};
-use script::name::{
-    AFTER, APPEND, CHECK, CLEAR, COUNT, DIGEST, FILL, JOURNALS, LEND, LIST, OPEN, REBUILD, ROW,
-    ROWS, TABLE, WRITE, heads, takes,
-};
-use script::number::{MOST, to_bytes};
-use std::io;
-use std::io::Write;
+use script::number;
+use script::number::Numbers;
 
-// Carries out a command on what is lent of the books. Answers whether it is one.
-fn call<W: Write>(
-    out: &mut W,
-    code: u8,
-    asked: &[usize; 3],
-    bytes: &[u8],
-    journals: &mut [u8],
-    rows: &mut [u8],
-    output: &mut [u8],
-) -> io::Result<bool> {
-    match code {
-        CLEAR => calls::clear(out, journals, rows)?,
-        OPEN => calls::open(out, bytes, journals, rows)?,
-        APPEND => calls::append(out, bytes, journals, rows)?,
-        REBUILD => calls::rebuild(out, journals, rows)?,
-        TABLE => calls::table(out, bytes, rows)?,
-        COUNT => calls::count(out, bytes, journals)?,
-        CHECK => calls::check(out, journals, rows)?,
-        ROW => row(out, asked[0], rows)?,
-        JOURNALS => calls::journals(out, journals)?,
-        ROWS => calls::rows(out, journals, rows)?,
-        LIST => return page(out, asked, false, bytes, journals, rows, output),
-        AFTER => return page(out, asked, true, bytes, journals, rows, output),
-        _ => return Ok(false),
-    }
-    Ok(true)
+// One of the two books.
+#[derive(Clone, Copy)]
+pub(crate) enum Book {
+    Journals,
+    Rows,
 }
 
-// The same on as many bytes of each book's room as are lent; no where the room has fewer.
-fn lent_call<W: Write>(
-    out: &mut W,
-    code: u8,
-    asked: &[usize; 3],
-    bytes: &[u8],
-    lent: &[usize; 2],
-    journals: &mut [u8],
-    rows: &mut [u8],
-    output: &mut [u8],
-) -> io::Result<bool> {
-    let m = lent[0];
-    let n = lent[1];
-    if journals.len() < m {
-        return Ok(false);
-    }
-    if rows.len() < n {
-        return Ok(false);
-    }
-    call(
-        out,
-        code,
-        asked,
-        bytes,
-        &mut journals[..m],
-        &mut rows[..n],
-        output,
-    )
+// A page of the list: from the start, or after a word record. It goes into so many bytes as are lent.
+#[derive(Clone, Copy)]
+pub(crate) struct Page<'a> {
+    pub(crate) quorum: usize,
+    pub(crate) length: usize,
+    pub(crate) after: bool,
+    pub(crate) word: &'a [u8],
+    pub(crate) lent: usize,
 }
 
-// Carries out a command. Answers whether it is one.
-fn carry_out<W: Write>(
-    out: &mut W,
-    code: u8,
-    asked: &[usize; 3],
-    bytes: &[u8],
-    lent: &mut [usize; 2],
-    journals: &mut [u8],
-    rows: &mut [u8],
-    output: &mut [u8],
-) -> io::Result<bool> {
-    match code {
-        WRITE => Ok(room::write(asked, bytes, journals, rows)),
-        LEND => Ok(room::lend(asked, lent)),
-        FILL => Ok(room::fill(bytes, output)),
-        DIGEST => room::print_digests(out, journals, rows),
-        _ => lent_call(out, code, asked, bytes, lent, journals, rows, output),
+// A call of the books, with what it is asked.
+#[derive(Clone, Copy)]
+pub(crate) enum Call<'a> {
+    Clear,
+    Open(&'a [u8]),
+    Append(&'a [u8]),
+    Rebuild,
+    Table(&'a [u8]),
+    Count(&'a [u8]),
+    Check,
+    Row(usize),
+    Journals,
+    Rows,
+    List(Page<'a>),
+}
+
+// A command: a call, or bytes into a book at a place, how many bytes of a book are lent, one byte all over the output's room,
+// the digests of the books' rooms.
+#[derive(Clone, Copy)]
+pub(crate) enum Command<'a> {
+    Call(Call<'a>),
+    Write {
+        book: Book,
+        place: usize,
+        bytes: &'a [u8],
+    },
+    Lend {
+        book: Book,
+        length: usize,
+    },
+    Fill(u8),
+    Digest,
+}
+
+impl Book {
+    // The book of this number.
+    fn of(number: usize) -> Option<Self> {
+        match number {
+            1 => Some(Book::Journals),
+            2 => Some(Book::Rows),
+            _ => None,
+        }
     }
 }
 
-// The same with so many bytes; no where they are more than there are.
-fn with_bytes<W: Write>(
-    out: &mut W,
-    code: u8,
-    asked: &[usize; 3],
-    bytes: &[u8; MOST],
-    n: usize,
-    lent: &mut [usize; 2],
-    journals: &mut [u8],
-    rows: &mut [u8],
-    output: &mut [u8],
-) -> io::Result<bool> {
-    if MOST < n {
-        return Ok(false);
+// How many numbers of any size stand before the bytes of the command of this name.
+fn heads(name: &[u8]) -> usize {
+    match name {
+        b"row" => 1,
+        b"write" | b"lend" => 2,
+        b"list" | b"after" => 3,
+        _ => 0,
     }
-    let all = &bytes[..];
-    carry_out(out, code, asked, &all[..n], lent, journals, rows, output)
 }
 
-// Carries out the command of a line whose numbers were read: so many of them, the first few of any size, the others bytes.
-pub(crate) fn command<W: Write>(
-    out: &mut W,
-    code: u8,
-    read: usize,
-    numbers: &[usize; MOST],
-    lent: &mut [usize; 2],
-    journals: &mut [u8],
-    rows: &mut [u8],
-    output: &mut [u8],
-) -> io::Result<bool> {
-    let first = heads(code);
-    if read < first {
-        return Ok(false);
+impl<'a> Call<'a> {
+    // The call of this name, with these numbers and bytes.
+    fn of(name: &[u8], asked: &[usize], bytes: &'a [u8]) -> Option<Self> {
+        match (name, asked, bytes) {
+            (b"clear", [], []) => Some(Call::Clear),
+            (b"open", [], steps) => Some(Call::Open(steps)),
+            (b"append", [], steps) => Some(Call::Append(steps)),
+            (b"rebuild", [], []) => Some(Call::Rebuild),
+            (b"table", [], word) => Some(Call::Table(word)),
+            (b"count", [], word) => Some(Call::Count(word)),
+            (b"check", [], []) => Some(Call::Check),
+            (b"row", [row], []) => Some(Call::Row(*row)),
+            (b"journals", [], []) => Some(Call::Journals),
+            (b"rows", [], []) => Some(Call::Rows),
+            (b"list" | b"after", [quorum, length, lent], word) => Some(Call::List(Page {
+                quorum: *quorum,
+                length: *length,
+                after: matches!(name, b"after"),
+                word,
+                lent: *lent,
+            })),
+            _ => None,
+        }
     }
-    if MOST < read {
-        return Ok(false);
+}
+
+impl<'a> Command<'a> {
+    // The command of this name, with these numbers and bytes.
+    fn of(name: &[u8], asked: &[usize], bytes: &'a [u8]) -> Option<Self> {
+        match (name, asked, bytes) {
+            (b"write", [book, place], bytes) => Some(Command::Write {
+                book: Book::of(*book)?,
+                place: *place,
+                bytes,
+            }),
+            (b"lend", [book, length], []) => Some(Command::Lend {
+                book: Book::of(*book)?,
+                length: *length,
+            }),
+            (b"fill", [], [byte]) => Some(Command::Fill(*byte)),
+            (b"digest", [], []) => Some(Command::Digest),
+            _ => Some(Command::Call(Call::of(name, asked, bytes)?)),
+        }
     }
-    let n = read - first;
-    if !takes(code, n) {
-        return Ok(false);
+
+    // The command of a line, whose bytes are put where there is room for them. None if the line is no command.
+    pub(crate) fn read(line: &[u8], bytes: &'a mut Numbers<u8>) -> Option<Self> {
+        let mut words = line.split(|byte| *byte == b' ');
+        let name = words.next()?;
+        let mut numbers = Numbers::new();
+        for word in words {
+            number::read(word, &mut numbers)?;
+        }
+        let (asked, rest) = numbers.as_slice().split_at_checked(heads(name))?;
+        number::to_bytes(rest, bytes)?;
+        Command::of(name, asked, bytes.as_slice())
     }
-    let mut bytes = [0u8; MOST];
-    let all = &numbers[..];
-    if !to_bytes(&all[first..read], &mut bytes) {
-        return Ok(false);
-    }
-    let asked = [numbers[0], numbers[1], numbers[2]];
-    with_bytes(out, code, &asked, &bytes, n, lent, journals, rows, output)
 }

@@ -1,51 +1,58 @@
 // A page of the list: the call, and what is printed of it.
 
+use crate::calls::Lent;
+use crate::command::Page;
+use crate::stop::Stop;
 use list::Listed;
 use records::WORD_RECORD;
 use script::digest::digest;
-use script::print::{answer, field};
-use script::record::print_few;
+use script::record::Words;
 use std::io;
 use std::io::Write;
 
-// Prints what the list answers, and the digest of what it was lent with the record behind.
+// Pages of up to so many words are printed word by word.
+const FEW: usize = 8;
+
+// Prints what the list answers, the digest of what it was lent with the record behind, and the words that it wrote if they are
+// few and fit there.
 fn print_listed<W: Write>(out: &mut W, listed: Listed, room: &[u8]) -> io::Result<()> {
     let written = listed.written;
-    answer(out, listed.number)?;
-    field(out, b", written ", written as u64)?;
-    field(out, b", more ", listed.more as u64)?;
-    field(out, b", digest ", digest(room))?;
-    print_few(out, written, room)
+    write!(
+        out,
+        " -> {}, written {written}, more {}, digest {}",
+        listed.number,
+        u8::from(listed.more),
+        digest(room)
+    )?;
+    if written <= FEW
+        && let Some(words) = room.get(..WORD_RECORD * written)
+    {
+        write!(out, "{}", Words(words))?;
+    }
+    Ok(())
 }
 
-// Fetches a page into the first bytes of the output's room and prints it. Answers whether the room has as many, and a word
-// record behind them.
-pub(crate) fn page<W: Write>(
-    out: &mut W,
-    asked: &[usize; 3],
-    after: bool,
-    word: &[u8],
-    journals: &[u8],
-    rows: &[u8],
-    room: &mut [u8],
-) -> io::Result<bool> {
-    let lent = asked[2];
-    if room.len() < WORD_RECORD {
-        return Ok(false);
+impl Lent<'_> {
+    // Fetches a page into the first bytes of the output's room and prints it. The line is broken where the room has fewer, or no
+    // word record behind them.
+    pub(crate) fn page<W: Write>(
+        &self,
+        out: &mut W,
+        page: Page,
+        room: &mut [u8],
+    ) -> Result<(), Stop> {
+        let end = page.lent.checked_add(WORD_RECORD).ok_or(Stop::Broken)?;
+        let shown = room.get_mut(..end).ok_or(Stop::Broken)?;
+        let listed = list::list(
+            self.journals,
+            self.rows,
+            page.quorum,
+            page.length,
+            page.after,
+            page.word,
+            &mut shown[..page.lent],
+        );
+        print_listed(out, listed, shown)?;
+        Ok(())
     }
-    if room.len() - WORD_RECORD < lent {
-        return Ok(false);
-    }
-    let listed = list::list(
-        journals,
-        rows,
-        asked[0],
-        asked[1],
-        after,
-        word,
-        &mut room[..lent],
-    );
-    let shown = lent + WORD_RECORD;
-    print_listed(out, listed, &room[..shown])?;
-    Ok(true)
 }

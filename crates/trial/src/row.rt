@@ -1,18 +1,20 @@
 // The row record call, and what is printed of it.
 
+use crate::calls::Lent;
 use records::ROW_RECORD;
-use script::print::{answer, field};
-use script::record::print_row;
+use script::record::Row;
 use std::io;
 use std::io::Write;
 
-// The row record call: prints its number, and the part that it gives back.
-pub(crate) fn row<W: Write>(out: &mut W, n: usize, rows: &[u8]) -> io::Result<()> {
-    answer(out, reading::row_record_number(rows, n))?;
-    let given = reading::row_record(rows, n);
-    if given.len() == ROW_RECORD {
-        print_row(out, given)
-    } else {
-        field(out, b", length ", given.len() as u64)
+impl Lent<'_> {
+    // Prints the number of the call, and the part that it gives back.
+    pub(crate) fn row<W: Write>(&self, out: &mut W, row: usize) -> io::Result<()> {
+        let number = reading::row_record_number(self.rows, row);
+        write!(out, " -> {number}")?;
+        let given = reading::row_record(self.rows, row);
+        match <&[u8; ROW_RECORD]>::try_from(given) {
+            Ok(record) => write!(out, "{}", Row(record)),
+            Err(_) => write!(out, ", length {}", given.len()),
+        }
     }
 }
