@@ -19,7 +19,7 @@ lone_in [] l h = absurd (omega arith)
 lone_in (x ∷ []) l h = refl
 lone_in (x ∷ y ∷ xs) l h = absurd (omega arith)
 
-entry_in : (xs : List ℕ) → 2 ≤ length xs → entries_in xs ≡ Ok (get_or xs 0 0 ∷ get_or xs 1 0 ∷ []) ∷ entries_in (drop 2 xs)
+entry_in : (xs : List ℕ) → 2 ≤ length xs → entries_in xs ≡ Ok (get_or xs 0 0, get_or xs 1 0) ∷ entries_in (drop 2 xs)
 entry_in [] l = absurd (omega arith)
 entry_in (x ∷ []) l = absurd (omega arith)
 entry_in (x ∷ y ∷ xs) l = refl
@@ -40,6 +40,6 @@ module _ (b : List ℕ) (at : ℕ) where
       let behind = drop_of_length-le b {i = at + 1} (omega (arith, length-drop at b)) in
       lone_in (drop at b) (rw (take_rest b at) at l) few ∙ ap (λ (r : List ℕ). Err (record {}) ∷ entries_in r) (sym behind)
 
-  pub entry_read : 2 ≤ length part → read_at b at ≡ Ok (get_or part 0 0 ∷ get_or part 1 0 ∷ []) ∷ read_at b (at + 2)
+  pub entry_read : 2 ≤ length part → read_at b at ≡ Ok (get_or part 0 0, get_or part 1 0) ∷ read_at b (at + 2)
   unfolding read_at
   entry_read l = rw (take_rest b at, ← drop-drop 2 at b) (entry_in (drop at b) (rw (take_rest b at) at l))

@@ -33,14 +33,14 @@ impl Iterator for Reader<'_> {
     ghost use Rattle.entries.specs.Reading.{entries_left};
 
     // A journal number and a step, or a lone last byte.
-    type Item = Result<[u8; 2], LoneByte>;
+    type Item = Result<(u8, u8), LoneByte>;
 
     ghost next_gives = { YieldsFirst entries_left };
 
     ghost remaining = { item_count entries_left };
 
     #[tactic(auto, using(crate::proofs::Reading::none_read, crate::proofs::Reading::lone_read, crate::proofs::Reading::entry_read))]
-    fn next(&mut self) -> Option<Result<[u8; 2], LoneByte>> {
+    fn next(&mut self) -> Option<Result<(u8, u8), LoneByte>> {
         match &self.bytes[self.at..] {
             [] => None,
             [_] => {
@@ -49,7 +49,7 @@ impl Iterator for Reader<'_> {
             }
             [number, step, ..] => {
                 self.at += 2;
-                Some(Ok([*number, *step]))
+                Some(Ok((*number, *step)))
             }
         }
     }

@@ -1,8 +1,10 @@
--- `feed::entry::enter` meets its contract: the number of open journals is refused exactly as the entry is, and else it is at most
--- 16. Then each arm does what its entry asks for. Assumes nothing.
+-- `feed::entry::enter` meets its contract: the number of open journals is refused exactly as the entry is. Else each arm does what
+-- its entry asks for. Assumes nothing.
 use mathlib.Core.Path.{◌∙◌}
+use Rattle.std.specs.Prelude.{Some, None}
+use Rattle.entries.specs.declared.entry.Entry.TheVariants.{Append, Open, OpenAppend}
 use Rattle.feed.specs.Entry.{enter}
-use Rattle.feed.proofs.Entering.{entry_refused, entered, byte_enough}
+use Rattle.feed.proofs.Entering.{entry_refused, entered}
 use Rattle.feed.proofs.entry.enter.Goals as goal
 
 pub returns-then-wrong-ne-DONE : goal.returns-then-wrong-ne-DONE
@@ -10,29 +12,26 @@ returns-then-wrong-ne-DONE c =
     let a = c.args in
     entry_refused _ _ c.open_journals-known.ensures c.if-wrong-ne-DONE.true a.rows.now a.number a.step
 
-pub entry_of-requires : goal.entry_of-requires
-entry_of-requires c = byte_enough _ _ c.open_journals-known.ensures
-
-pub returns-in-Broken : goal.returns-in-Broken
+pub returns-in-None : goal.returns-in-None
 unfolding enter
-returns-in-Broken c =
+returns-in-None c =
     let a = c.args in
-    entered _ _ c.open_journals-known.ensures c.if-wrong-ne-DONE.false _ a.rows.now a.number a.step c.in-Broken.ensures
+    entered _ _ c.open_journals-known.ensures c.if-wrong-ne-DONE.false None a.rows.now a.number a.step (cc)
 
-pub returns-in-Append : goal.returns-in-Append
+pub returns-in-Some-Append : goal.returns-in-Some-Append
 unfolding enter
-returns-in-Append c =
+returns-in-Some-Append c =
     let a = c.args in
-    c.append.ensures ∙ entered _ _ c.open_journals-known.ensures c.if-wrong-ne-DONE.false _ a.rows.now a.number a.step c.in-Append.ensures
+    c.append.ensures ∙ entered _ _ c.open_journals-known.ensures c.if-wrong-ne-DONE.false (Some (Append c.in-Some-Append.s)) a.rows.now a.number a.step (cc)
 
-pub returns-in-Open : goal.returns-in-Open
+pub returns-in-Some-Open : goal.returns-in-Some-Open
 unfolding enter
-returns-in-Open c =
+returns-in-Some-Open c =
     let a = c.args in
-    c.«open».ensures ∙ entered _ _ c.open_journals-known.ensures c.if-wrong-ne-DONE.false _ a.rows.now a.number a.step c.in-Open.ensures
+    c.«open».ensures ∙ entered _ _ c.open_journals-known.ensures c.if-wrong-ne-DONE.false (Some Open) a.rows.now a.number a.step (cc)
 
-pub returns-in-OpenAppend : goal.returns-in-OpenAppend
+pub returns-in-Some-OpenAppend : goal.returns-in-Some-OpenAppend
 unfolding enter
-returns-in-OpenAppend c =
+returns-in-Some-OpenAppend c =
     let a = c.args in
-    c.open_append_whole.ensures ∙ entered _ _ c.open_journals-known.ensures c.if-wrong-ne-DONE.false _ a.rows.now a.number a.step c.in-OpenAppend.ensures
+    c.open_append_whole.ensures ∙ entered _ _ c.open_journals-known.ensures c.if-wrong-ne-DONE.false (Some (OpenAppend c.in-Some-OpenAppend.s)) a.rows.now a.number a.step (cc)
