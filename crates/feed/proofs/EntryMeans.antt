@@ -34,7 +34,7 @@ use Rattle.entries.specs.declared.entry.Entry.{Entry}
 use Rattle.entries.specs.declared.entry.Entry.TheVariants.{Append, Open, OpenAppend}
 use Rattle.entries.proofs.Meaning.{Asks, asks, last_opened, means_fits, means_journals}
 use Rattle.feed.specs.Entry.{open_append, open_append_whole, enter, entry_call}
-use Rattle.feed.proofs.EntryCases.{opening_refused, opening_done, whole_refused}
+use Rattle.feed.proofs.EntryCases.{opening_done, whole_unopened}
 
 -- the books of the journals
 abbrev pub Rebooked : List (List ℕ) → Type 0
@@ -68,7 +68,7 @@ module _ {js : List (List ℕ)} {jb rb : List ℕ} (b : BooksOf js jb rb) where
   unfolding entry_number
   whole_full s t =
       let no : open_call jb rb ≡ after 7 jb rb = open_means b ∙ rw t in
-      rw t (sym (whole_refused jb rb s 7 jb rb (opening_refused jb rb s 7 jb rb (sym no) (λ z. omega arith)) (λ z. omega arith)))
+      rw t (whole_unopened jb rb s 7 (λ z. omega arith) (sym no))
 
   -- with room, the append to the journal just opened decides
   module _ (f : leb 16 (length js) ≡ false) where

@@ -9,6 +9,7 @@ use entries::{Entry, LoneByte, entry_of};
 use records::{JOURNAL_BOOK, ROW_BOOK};
 
 // Opens the next journal and, where that is done, appends to it.
+#[tactic(auto, unfolding(crate::specs::Entry::open_append))]
 fn open_append(journals: &mut [u8], rows: &mut [u8], step: u8) -> u8
     ensures { after result journals.new rows.new ≡ open_append journals.old rows.old step }
 {
@@ -20,6 +21,7 @@ fn open_append(journals: &mut [u8], rows: &mut [u8], step: u8) -> u8
 }
 
 // Opens the next journal and appends to it, or does neither: on copies of the books until both are done.
+#[tactic(auto, using(crate::proofs::EntryCases::whole_journals, crate::proofs::EntryCases::whole_rows, crate::proofs::EntryCases::whole_refused), unfolding(crate::specs::Entry::open_append_whole))]
 fn open_append_whole(journals: &mut [u8], rows: &mut [u8], step: u8) -> u8
     ensures { after result journals.new rows.new ≡ open_append_whole journals.old rows.old step }
 {
@@ -39,6 +41,7 @@ fn open_append_whole(journals: &mut [u8], rows: &mut [u8], step: u8) -> u8
 }
 
 // Takes one entry, whole or not at all.
+#[tactic(auto, unfolding(crate::specs::Entry::entry_call, crate::specs::Entry::enter, books::specs::OpenJournals::open_journals_call))]
 pub fn enter(journals: &mut [u8], rows: &mut [u8], number: u8, step: u8) -> u8
     ensures { after result journals.new rows.new ≡ entry_call journals.old rows.old number step }
 {
