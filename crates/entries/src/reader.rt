@@ -17,14 +17,25 @@ pub struct Reader<'a> {
 
 impl<'a> Reader<'a> {
     ghost use Rattle.std.specs.Prelude.{◌≡◌};
-    ghost use Rattle.entries.specs.Reading.{entries_in, entries_left};
+    ghost use Rattle.entries.specs.Reading.{entries_in, read_at, entries_left};
 
     // A reader at the first byte.
     #[tactic(auto, unfolding(crate::specs::Reading::read_at))]
     pub fn new(bytes: &'a [u8]) -> Reader<'a>
         ensures { entries_left result ≡ entries_in bytes.now }
     {
-        Reader { bytes, at: 0 }
+        Reader::at(bytes, 0)
+    }
+
+    // A reader at a position of the bytes, or behind the last byte where that comes first.
+    #[tactic(auto, using(std::proofs::lemmas::List::drop_min), unfolding(crate::specs::Reading::read_at))]
+    pub fn at(bytes: &'a [u8], at: usize) -> Reader<'a>
+        ensures { entries_left result ≡ read_at bytes.now at }
+    {
+        Reader {
+            bytes,
+            at: at.min(bytes.len()),
+        }
     }
 }
 
