@@ -2,14 +2,14 @@
 
 ghost use Rattle.std.specs.Prelude.{◌≡◌};
 ghost use Rattle.books.specs.Clear.{after};
-ghost use Rattle.feed.specs.Entry.{open_append, open_append_whole, entry_call};
+ghost use Rattle.feed.specs.Entry.{open_append, open_append_whole, entry_call, take_call};
 
 use books::number::{BROKEN_ENTRY, DONE, WRONG_SIZE};
-use entries::{Entry, entry_of};
-use lent_bytes::copy_all;
+use entries::{Entry, LoneByte, entry_of};
 use records::{JOURNAL_BOOK, ROW_BOOK};
 
 // Opens the next journal and, where that is done, appends to it.
+#[tactic(auto, unfolding(crate::specs::Entry::open_append))]
 fn open_append(journals: &mut [u8], rows: &mut [u8], step: u8) -> u8
     ensures { after result journals.new rows.new ≡ open_append journals.old rows.old step }
 {
@@ -21,29 +21,27 @@ fn open_append(journals: &mut [u8], rows: &mut [u8], step: u8) -> u8
 }
 
 // Opens the next journal and appends to it, or does neither: on copies of the books until both are done.
+#[tactic(auto, using(crate::proofs::EntryCases::whole_journals, crate::proofs::EntryCases::whole_rows, crate::proofs::EntryCases::whole_refused), unfolding(crate::specs::Entry::open_append_whole))]
 fn open_append_whole(journals: &mut [u8], rows: &mut [u8], step: u8) -> u8
     ensures { after result journals.new rows.new ≡ open_append_whole journals.old rows.old step }
 {
-    if journals.len() != JOURNAL_BOOK {
+    let Ok(mut new_journals) = <[u8; JOURNAL_BOOK]>::try_from(&*journals) else {
         return WRONG_SIZE;
-    }
-    if rows.len() != ROW_BOOK {
+    };
+    let Ok(mut new_rows) = <[u8; ROW_BOOK]>::try_from(&*rows) else {
         return WRONG_SIZE;
-    }
-    let mut new_journals = [0u8; JOURNAL_BOOK];
-    let mut new_rows = [0u8; ROW_BOOK];
-    copy_all(journals, &mut new_journals);
-    copy_all(rows, &mut new_rows);
+    };
     let both = open_append(&mut new_journals, &mut new_rows, step);
     if both != DONE {
         return both;
     }
-    copy_all(&new_journals, journals);
-    copy_all(&new_rows, rows);
+    journals.copy_from_slice(&new_journals);
+    rows.copy_from_slice(&new_rows);
     DONE
 }
 
 // Takes one entry, whole or not at all.
+#[tactic(auto, unfolding(crate::specs::Entry::entry_call, crate::specs::Entry::enter, books::specs::OpenJournals::open_journals_call))]
 pub fn enter(journals: &mut [u8], rows: &mut [u8], number: u8, step: u8) -> u8
     ensures { after result journals.new rows.new ≡ entry_call journals.old rows.old number step }
 {
@@ -53,9 +51,19 @@ pub fn enter(journals: &mut [u8], rows: &mut [u8], number: u8, step: u8) -> u8
         return wrong;
     }
     match entry_of(known.journals, number, step) {
-        Entry::Broken => BROKEN_ENTRY,
-        Entry::Append(s) => writing::append(journals, rows, s),
-        Entry::Open => writing::open(journals, rows),
-        Entry::OpenAppend(s) => open_append_whole(journals, rows, s),
+        None => BROKEN_ENTRY,
+        Some(Entry::Append(s)) => writing::append(journals, rows, s),
+        Some(Entry::Open) => writing::open(journals, rows),
+        Some(Entry::OpenAppend(s)) => open_append_whole(journals, rows, s),
+    }
+}
+
+// Takes what was read, whole or not at all; a lone last byte is broken.
+pub(crate) fn take(journals: &mut [u8], rows: &mut [u8], read: Result<(u8, u8), LoneByte>) -> u8
+    ensures { after result journals.new rows.new ≡ take_call journals.old rows.old read }
+{
+    match read {
+        Ok((number, step)) => enter(journals, rows, number, step),
+        Err(LoneByte) => BROKEN_ENTRY,
     }
 }
