@@ -26,8 +26,6 @@ fn print_words(rt: &impl Print, journals: &[u8], rows: &[u8], ask: Ask) -> io::R
     ensures { IfOk result (λ end. IfSome end (λ words.
         words ≡ length (list_of (count (journals_of journals.now)) ask.quorum ask.limit))) }
 {
-    let quorum = ask.quorum;
-    let limit = ask.limit;
     let mut page = [0u8; PAGE];
     let mut last: Option<[u8; WORD_RECORD]> = None;
     let mut words = 0;
@@ -37,8 +35,8 @@ fn print_words(rt: &impl Print, journals: &[u8], rows: &[u8], ask: Ask) -> io::R
         let listed = list::list(
             journals,
             rows,
-            quorum,
-            limit,
+            ask.quorum,
+            ask.limit,
             after,
             &word_record,
             &mut page,

@@ -12,5 +12,5 @@ use Rattle.load.proofs.report.print_words.Given as goal
 
 abbrev pub invariant-loop : goal.invariant-loop
 invariant-loop g l =
-    (l.words ≤ 1024 * l.counter) × (length l.page ≡ 16384)
-    × (l.words + length (due_in (list_of (count (journals_of l.journals)) l.quorum l.limit) (is_some l.last) (unwrap_or l.last (replicate 16 0))) ≡ length (list_of (count (journals_of l.journals)) l.quorum l.limit))
+    let whole = list_of (count (journals_of l.journals)) l.ask.quorum l.ask.limit in (l.words ≤ 1024 * l.counter) × (length l.page ≡ 16384)
+    × (l.words + length (due_in whole (is_some l.last) (unwrap_or l.last (replicate 16 0))) ≡ length whole)
