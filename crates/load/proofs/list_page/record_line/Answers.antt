@@ -5,12 +5,8 @@ use mathlib.Core.Bool.{cond}
 use mathlib.Core.List.{List, []}
 use lib.ListN.{length, take, drop}
 use lib.Dec.{leb}
-<<<<<<< HEAD
-use Rattle.books.specs.TableCount.{Counted}
-=======
 use borrow.Author.Rules.{rules}
-use Rattle.books.specs.declared.Counted.{Counted}
->>>>>>> 54d66993346d9de106199bbb18a15cb74eee42c4
+use Rattle.books.specs.TableCount.{Counted}
 use Rattle.text.specs.Text.{word_line}
 use Rattle.load.proofs.PageLines.{record_line}
 use Rattle.load.proofs.list_page.record_line.Goals as goal
