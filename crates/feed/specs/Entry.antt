@@ -9,7 +9,8 @@ use Rattle.entries.specs.Meaning.{is_broken, none_free, last_full, rows_passed}
 use Rattle.entries.specs.declared.entry.Entry.{Entry}
 use Rattle.entries.specs.declared.entry.Entry.TheVariants.{Append, Open, OpenAppend}
 use Rattle.entries.specs.declared.reader.LoneByte.{LoneByte}
-use Rattle.feed.specs.declared.Fed.{Fed}
+use Rattle.books.specs.Answers.{number_of}
+use Rattle.feed.specs.declared.RefusedEntry.{RefusedEntry}
 use Rattle.books.specs.Open.{open_call}
 use Rattle.books.specs.Append.{append_call}
 use Rattle.books.specs.OpenJournals.{open_journals_refusals}
@@ -78,8 +79,10 @@ pub record AfterFeeding : Type 0 where
   pub journals : List ℕ
   pub rows : List ℕ
 
-abbrev pub fed : Fed → List ℕ → List ℕ → AfterFeeding
-fed r jb rb = record { number = r.number; taken = r.taken; journals = jb; rows = rb }
+-- the code's answer, and both books
+abbrev pub fed : Result ℕ RefusedEntry → List ℕ → List ℕ → AfterFeeding
+fed (Ok n) jb rb = record { number = done; taken = n; journals = jb; rows = rb }
+fed (Err e) jb rb = record { number = number_of e.refused; taken = e.taken; journals = jb; rows = rb }
 
 -- the entries in their order, until one is refused; half an entry at the end is broken
 unfoldable pub feed_from : ℕ → List ℕ → List ℕ → List ℕ → AfterFeeding

@@ -6,33 +6,29 @@ mod entry;
 ghost use Rattle.std.specs.Prelude.{◌≡◌};
 ghost use Rattle.feed.specs.Entry.{fed, feed_call};
 
-use books::number::DONE;
+use books::Refused;
 use entries::Reader;
 pub use entry::enter;
 use entry::take;
 
-// How many entries were taken, and the number of the refusal that ended them, or 0.
-#[derive(Clone, Copy)]
-pub struct Fed {
-    pub number: u8,
+// The refusal that ended a row of entries, and how many were taken before it.
+#[derive(Clone, Copy, Debug, PartialEq, Eq)]
+pub struct RefusedEntry {
+    pub refused: Refused,
     pub taken: usize,
 }
 
-// Takes entries in their order until one is refused.
+// Takes entries in their order until one is refused. Answers how many were taken.
 #[tactic(auto, using(crate::proofs::FeedCases::feeds, crate::proofs::FeedCases::few_in, crate::proofs::FeedCases::taken_refused), unfolding(crate::specs::Entry::feed_call))]
-pub fn feed(journals: &mut [u8], rows: &mut [u8], entries: &[u8]) -> Fed
+pub fn feed(journals: &mut [u8], rows: &mut [u8], entries: &[u8]) -> Result<usize, RefusedEntry>
     ensures { fed result journals.new rows.new ≡ feed_call journals.old rows.old entries.now }
 {
     let mut taken = 0;
     for read in Reader::new(entries) {
-        let number = take(journals, rows, read);
-        if number != DONE {
-            return Fed { number, taken };
+        if let Err(refused) = take(journals, rows, read) {
+            return Err(RefusedEntry { refused, taken });
         }
         taken += 1;
     }
-    Fed {
-        number: DONE,
-        taken,
-    }
+    Ok(taken)
 }
