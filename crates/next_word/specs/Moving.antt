@@ -1,18 +1,9 @@
--- What the code's words stand for. Assumes nothing.
-use Rattle.std.specs.Prelude.{ℕ, ◌≤◌, cond, List, [], ◌∷◌, take}
-use Rattle.words.specs.Words.{IsWord}
-use Rattle.next_word.specs.declared.word.Word.{Word}
-use Rattle.next_word.specs.declared.word.Moved.{Moved}
+-- What a search goes through. Assumes nothing.
+use Rattle.std.specs.Prelude.{ℕ, List}
+use Rattle.words.specs.Listing.{list_of}
+use Rattle.next_word.specs.Next.{table_of}
+use Rattle.next_word.specs.declared.search.Search.{Search}
 
--- the word by value as a row of steps
-abbrev pub steps_in : Word → List ℕ
-steps_in w = take w.len w.steps
-
--- where a word moved to, or nowhere
-abbrev pub moved : Moved → List (List ℕ)
-moved m = cond m.found (steps_in m.word ∷ []) []
-
--- a word of at most n steps, all of them codes
-pub record Fit (n : ℕ) (w : Word) : Type 0 where
-  pub short : w.len ≤ n
-  pub codes : IsWord (steps_in w)
+-- the list that a search goes through: the words that the quorum admits, up to the length, in dictionary order
+abbrev pub words_of : Search → List (List ℕ)
+words_of s = list_of (table_of s.rows.now) s.quorum s.limit
