@@ -8,7 +8,7 @@ ghost use Rattle.books.specs.JournalCount.{journal_count_call};
 ghost use Rattle.list.specs.ListCall.{asked, wrong_output, list_refusals};
 ghost use Rattle.list.specs.AfterWord.{word_if, due_from};
 ghost use Rattle.next_word.specs.Next.{table_of};
-ghost use Rattle.next_word.specs.Moving.{words_of};
+ghost use Rattle.next_word.specs.Searching.{words_of};
 
 use books::number::{DONE, WRONG_LENGTH, WRONG_QUORUM, WRONG_SIZE, WRONG_WORD};
 use next_word::{Search, Word};
@@ -22,10 +22,7 @@ fn wrong_output(out: &[u8]) -> bool
     ensures { result ≡ wrong_output out.now }
 {
     let n = out.len();
-    if n % WORD_RECORD != 0 {
-        return true;
-    }
-    n < WORD_RECORD || LARGEST_OUTPUT < n
+    n % WORD_RECORD != 0 || n < WORD_RECORD || LARGEST_OUTPUT < n
 }
 
 // The number that the list answers.
@@ -84,11 +81,7 @@ pub(crate) fn word_after(after: bool, word_record: &[u8]) -> Option<Word>
     requires { after ≡ true → (length word_record.now ≡ word_record_size) × (word_form word_record.now ≡ true) }
     ensures { result ≡ word_if after word_record.now }
 {
-    if after {
-        Some(Word::from_record(word_record))
-    } else {
-        None
-    }
+    after.then(|| Word::from_record(word_record))
 }
 
 // The first word that is due: from the start, or after the given word.

@@ -9,7 +9,7 @@ use lib.Dec.{leb}
 use borrow.Author.Tests.{leb-true, leb-false}
 use Rattle.words.specs.Listing.{past}
 use Rattle.words.specs.Words.{IsWord}
-use Rattle.next_word.specs.Moving.{words_of}
+use Rattle.next_word.specs.Searching.{words_of}
 use Rattle.next_word.specs.Next.{climbed, from_on, from_there, table_of}
 use Rattle.next_word.specs.declared.search.Search.{Search}
 use Rattle.next_word.proofs.Climb.{climb_skips, climb_after, here}

@@ -19,7 +19,7 @@ pub struct Search<'a> {
 }
 
 impl<'a> Search<'a> {
-    ghost use Rattle.next_word.specs.Moving.{words_of};
+    ghost use Rattle.next_word.specs.Searching.{words_of};
 
     // Whether a word's count reaches the quorum.
     #[tactic(auto, unfolding(crate::specs::Next::table_of))]

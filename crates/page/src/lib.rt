@@ -6,7 +6,7 @@ ghost use Rattle.records.specs.Sizes.{word_record_size};
 ghost use Rattle.records.specs.WordRecord.{word_record};
 ghost use Rattle.page.specs.Written.{written};
 ghost use Rattle.next_word.specs.Next.{from_there};
-ghost use Rattle.next_word.specs.Moving.{words_of};
+ghost use Rattle.next_word.specs.Searching.{words_of};
 
 use next_word::{Search, Word};
 use records::WORD_RECORD;
@@ -41,6 +41,7 @@ pub fn write_page(search: &Search, first: Option<Word>, out: &mut [u8]) -> Page
 {
     let mut at = first;
     let room = out.len() / WORD_RECORD;
+    // Kept: the part is lent by its bounds, not by `chunks_exact_mut`, since document 01 lends a `&mut` part starting mid-output.
     for i in 0..room {
         let Some(word) = at else {
             return Page {

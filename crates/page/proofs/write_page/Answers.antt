@@ -4,7 +4,7 @@ use mathlib.Core.Path.{◌≡◌}
 use lib.ListN.{length}
 use Rattle.std.specs.Prelude.{option_to_list}
 use Rattle.words.proofs.Dictionary.{list_ascending}
-use Rattle.next_word.specs.Moving.{words_of}
+use Rattle.next_word.specs.Searching.{words_of}
 use Rattle.next_word.specs.Next.{table_of}
 use Rattle.page.proofs.Ends.{there_end}
 use Rattle.page.proofs.Paging.{page_start, page_turn, page_stop, page_full}

@@ -3,7 +3,7 @@
 use Prim.Native.Nat.{◌≤◌}
 use lib.ListN.{length}
 use Rattle.std.specs.Prelude.{option_to_list, IfSome}
-use Rattle.next_word.specs.Moving.{words_of}
+use Rattle.next_word.specs.Searching.{words_of}
 use Rattle.next_word.specs.Next.{from_there}
 use Rattle.page.proofs.Paging.{PageAt}
 use Rattle.page.proofs.write_page.Given as goal

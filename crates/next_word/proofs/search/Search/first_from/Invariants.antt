@@ -4,7 +4,7 @@
 use Prim.Native.Nat.{◌≤◌}
 use mathlib.Core.Path.{◌≡◌}
 use lib.ListN.{length}
-use Rattle.next_word.specs.Moving.{words_of}
+use Rattle.next_word.specs.Searching.{words_of}
 use Rattle.next_word.specs.Next.{from_on}
 use Rattle.next_word.proofs.Climb.{slack}
 use Rattle.next_word.proofs.search.Search.first_from.Given as goal

@@ -5,7 +5,7 @@ use native.Mathlib.Omega.{arith}
 use mathlib.Core.Path.{sym, ap, ◌∙◌}
 use mathlib.Core.List.{List, [], ◌∷◌}
 use lib.ListN.{length, take}
-use Rattle.next_word.specs.Moving.{words_of}
+use Rattle.next_word.specs.Searching.{words_of}
 use Rattle.next_word.specs.Next.{from_on}
 use Rattle.next_word.proofs.Climb.{extend_after}
 use Rattle.next_word.proofs.Searching.{behind}
