@@ -7,7 +7,8 @@ ghost use Rattle.std.specs.Prelude.{◌≡◌};
 ghost use Rattle.list.specs.ListCall.{asked, wrote, list_call};
 
 use books::number::DONE;
-use decide::{decide, first_due};
+use decide::{decide, first_due, word_after};
+use next_word::Search;
 use page::write_page;
 
 // What the list answers: a number of document 01, how many words were written, and whether there are more.
@@ -20,6 +21,7 @@ pub struct Listed {
 
 // Lists the words of at most `limit` steps that at least `quorum` journals show, in dictionary order: from the start, or
 // after the word of a word record. Writes one word record each, as many as fit into the output or as remain.
+// Kept: `after` with the word record beside it, since the record's size is looked at from the start too (`list_refusals`).
 pub fn list(
     journals: &[u8],
     rows: &[u8],
@@ -39,8 +41,13 @@ pub fn list(
             more: false,
         };
     }
-    let first = first_due(rows, quorum, limit, after, word_record);
-    let page = write_page(rows, quorum, limit, first, out);
+    let search = Search {
+        rows,
+        quorum,
+        limit,
+    };
+    let first = first_due(&search, word_after(after, word_record));
+    let page = write_page(&search, first, out);
     Listed {
         number: DONE,
         written: page.written,
