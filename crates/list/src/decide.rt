@@ -3,6 +3,7 @@
 ghost use Rattle.std.specs.Prelude.{◌≡◌, true, ◌||◌, [], ◌≤◌, length, take, get_or, eqb, ltb, option_to_list, IfSome};
 ghost use Rattle.records.specs.Sizes.{word_record_size};
 ghost use Rattle.records.specs.WordRecord.{word_form};
+ghost use Rattle.books.specs.Answers.{number_in};
 ghost use Rattle.books.specs.Numbers.{first};
 ghost use Rattle.books.specs.JournalCount.{journal_count_call};
 ghost use Rattle.list.specs.ListCall.{asked, wrong_output, list_refusals};
@@ -10,7 +11,7 @@ ghost use Rattle.list.specs.AfterWord.{word_if, due_from};
 ghost use Rattle.next_word.specs.Next.{table_of};
 ghost use Rattle.next_word.specs.Searching.{words_of};
 
-use books::number::{DONE, WRONG_LENGTH, WRONG_QUORUM, WRONG_SIZE, WRONG_WORD};
+use books::Refused;
 use next_word::{Search, Word};
 use records::{LONGEST_WORD, WORD_RECORD};
 
@@ -25,7 +26,7 @@ fn wrong_output(out: &[u8]) -> bool
     n % WORD_RECORD != 0 || n < WORD_RECORD || LARGEST_OUTPUT < n
 }
 
-// The number that the list answers.
+// Whether the list is refused, and with what.
 pub(crate) fn decide(
     journals: &[u8],
     rows: &[u8],
@@ -34,36 +35,32 @@ pub(crate) fn decide(
     after: bool,
     word_record: &[u8],
     out: &[u8],
-) -> u8
-    ensures { result ≡ first (list_refusals (asked journals.now rows.now quorum limit after word_record.now out.now)) }
+) -> Result<(), Refused>
+    ensures { number_in result ≡ first (list_refusals (asked journals.now rows.now quorum limit after word_record.now out.now)) }
 {
     if word_record.len() != WORD_RECORD || wrong_output(out) {
-        return WRONG_SIZE;
+        return Err(Refused::WrongSize);
     }
-    let seen = checking::check(journals, rows);
-    let number = seen.number;
-    if number != DONE {
-        return number;
-    }
+    checking::check(journals, rows)?;
     if LONGEST_WORD < limit {
-        return WRONG_LENGTH;
+        return Err(Refused::WrongLength);
     }
     if wrong_quorum(rows, quorum) {
-        return WRONG_QUORUM;
+        return Err(Refused::WrongQuorum);
     }
     if after && wrong_word(journals, limit, word_record) {
-        return WRONG_WORD;
+        return Err(Refused::WrongWord);
     }
-    DONE
+    Ok(())
 }
 
 // Whether a quorum is below 1 or above the number of journals, which is the count of the empty word.
-#[tactic(auto, unfolding(next_word::specs::Next::table_of))]
+#[tactic(auto, using(books::proofs::RefusalNumbers::count_told), unfolding(next_word::specs::Next::table_of))]
 fn wrong_quorum(rows: &[u8], quorum: usize) -> bool
     ensures { result ≡ (ltb quorum 1 || ltb (table_of rows.now []) quorum) }
 {
-    let counted = reading::table_count(rows, &rows[..0]);
-    quorum < 1 || (counted.count as usize) < quorum
+    let k = reading::table_count(rows, &[]).unwrap_or(0);
+    quorum < 1 || usize::from(k) < quorum
 }
 
 // Whether a word record is of wrong form, which the journal count tells, or longer than the list length.
@@ -72,8 +69,7 @@ fn wrong_word(journals: &[u8], limit: usize, word_record: &[u8]) -> bool
     ensures { result ≡ (eqb (journal_count_call journals.now word_record.now).number 10 || ltb limit (get_or word_record.now 0 0)) }
 {
     let counted = reading::journal_count(journals, word_record);
-    let number = counted.number;
-    number == WRONG_WORD || limit < word_record[0] as usize
+    matches!(counted, Err(Refused::WrongWord)) || limit < usize::from(word_record[0])
 }
 
 // The word that the list goes on after, if it doesn't begin at the start.

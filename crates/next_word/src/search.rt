@@ -22,13 +22,13 @@ impl<'a> Search<'a> {
     ghost use Rattle.next_word.specs.Searching.{words_of};
 
     // Whether a word's count reaches the quorum.
-    #[tactic(auto, unfolding(crate::specs::Next::table_of))]
+    #[tactic(auto, using(books::proofs::RefusalNumbers::count_told), unfolding(crate::specs::Next::table_of))]
     fn reaches(&self, w: &Word) -> bool
         ensures count { result ≡ leb self.now.quorum (table_of self.now.rows.now w.now) }
         ensures codes { IsWord w.now }
     {
-        let counted = reading::table_count(self.rows, w.steps());
-        self.quorum <= counted.count as usize
+        let count = reading::table_count(self.rows, w.steps()).unwrap_or(0);
+        self.quorum <= usize::from(count)
     }
 
     // The first word of the list from w on: a word below the quorum is left for the next one that is no extension of it.
