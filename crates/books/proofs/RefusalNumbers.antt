@@ -1,7 +1,9 @@
--- The numbers of what the code refuses with: none of them is 0, and a fault's is that of the refusal that it becomes. Assumes nothing.
+-- What the code's answers say: no refusal's number is 0, a fault's is that of the refusal that it becomes, and a refused count is 0. Assumes nothing.
 use mathlib.Core.Path.{◌≡◌, refl}
 use native.Mathlib.Omega.{arith}
-use Rattle.books.specs.Answers.{number_of, fault_at, refused_by}
+use Rattle.std.specs.Prelude.{ℕ, Result, Ok, Err}
+use Rattle.std.specs.Result.{result_unwrap_or}
+use Rattle.books.specs.Answers.{number_of, counted_in, fault_at, refused_by}
 use Rattle.books.specs.declared.refused.Refused.{Refused}
 use Rattle.books.specs.declared.refused.Refused.TheVariants.{WrongSize, Damaged, WrongStep, NoJournal, JournalFull, RowsFull, JournalsFull, WrongQuorum, WrongLength, WrongWord, BrokenEntry, WrongAsk, WrongRow}
 use Rattle.books.specs.declared.fault.Fault.{Fault}
@@ -28,3 +30,8 @@ pub refused_number : (f : Fault) → number_of (refused_by f) ≡ (fault_at f).n
 refused_number WrongSizes = refl
 refused_number (Journal r) = refl
 refused_number (Row r b) = refl
+
+-- a count that is refused is 0
+pub count_told : (r : Result ℕ Refused) → (counted_in r).count ≡ result_unwrap_or r 0
+count_told (Ok c) = refl
+count_told (Err e) = refl

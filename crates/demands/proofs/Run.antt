@@ -8,6 +8,7 @@ use lib.ListN.{length, drop, take-append-drop}
 use lib.Seq.{take_at, drop_at}
 use lib.Dec.{eqb}
 use borrow.Author.Tests.{ne_eqb, not-false}
+use Rattle.std.specs.Prelude.{Option}
 use Rattle.records.specs.JournalBook.{journal_form, journals_of, journal_book}
 use Rattle.records.specs.RowBook.{row_book}
 use Rattle.records.specs.Sizes.{journal_book_size}
@@ -87,7 +88,7 @@ module _ (js : List (List ℕ)) (jb rb : List ℕ) (b : BooksOf js jb rb) where
   write_keeps : (c : Writing) → BooksOf (leads_to c (written c jb rb).number js) (written c jb rb).journals (written c jb rb).rows
   write_keeps (calls c) = call_keeps js jb rb b c
   write_keeps (entry n s) =
-      let e : Entry = entry_of (length js) n s in
+      let e : Option Entry = entry_of (length js) n s in
       rw (entry_means b n s) (either_books (entry_number e js) (entry_leads_to e js) js jb rb b (entry_books b n s))
   write_keeps (entries bytes) = (feed_means js jb rb b bytes).books
 

@@ -1,4 +1,3 @@
-pub mod NotCode
 pub mod Reading
 pub mod Meaning
 pub mod Worked

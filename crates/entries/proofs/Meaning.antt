@@ -9,6 +9,7 @@ use lib.ListN.{length}
 use lib.Dec.{eqb, ltb}
 use lib.Seq.{get_or-append-add}
 use borrow.Author.Tests.{eqb-true, ltb-true, ltb-false, leb-false}
+use Rattle.std.specs.Prelude.{Option, Some, None}
 use Rattle.words.specs.Journals.{opened, appended, last_of, steps_at}
 use Rattle.words.specs.Picture.{picture}
 use Rattle.words.specs.Words.{AreJournals}
@@ -16,17 +17,17 @@ use Rattle.words.proofs.Journals.{length_opened, opened_journals, appended_at_jo
 use Rattle.entries.specs.Entry.{entry_of}
 use Rattle.entries.specs.Meaning.{means, is_broken, none_free, last_full, rows_passed, entry_number}
 use Rattle.entries.specs.declared.entry.Entry.{Entry}
-use Rattle.entries.specs.declared.entry.Entry.TheVariants.{Broken, Append, Open, OpenAppend}
+use Rattle.entries.specs.declared.entry.Entry.TheVariants.{Append, Open, OpenAppend}
 
 -- a step is a code, and it goes to a journal that is open
-abbrev pub Asks : List (List ℕ) → Entry → Type 0
-Asks js Broken = Unit {0}
-Asks js (Append s) = (s < 16) × (1 ≤ length js)
-Asks js Open = Unit {0}
-Asks js (OpenAppend s) = s < 16
+abbrev pub Asks : List (List ℕ) → Option Entry → Type 0
+Asks js None = Unit {0}
+Asks js (Some (Append s)) = (s < 16) × (1 ≤ length js)
+Asks js (Some Open) = Unit {0}
+Asks js (Some (OpenAppend s)) = s < 16
 
 module _ (js : List (List ℕ)) where
-  either : (b : Bool) (x y : Entry) → (b ≡ true → Asks js x) → (b ≡ false → Asks js y) → Asks js (cond b x y)
+  either : (b : Bool) (x y : Option Entry) → (b ≡ true → Asks js x) → (b ≡ false → Asks js y) → Asks js (cond b x y)
   either true x y p q = p refl
   either false x y p q = q refl
 
@@ -40,9 +41,10 @@ module _ (js : List (List ℕ)) where
   asks n s =
       let code : Bool = ltb s 16 in
       let last : Bool = eqb (n + 1) (length js) && code in
-      either (eqb n (length js)) (cond code (OpenAppend s) (cond (eqb s 255) Open Broken)) (cond last (Append s) Broken)
-      (λ t. either code (OpenAppend s) (cond (eqb s 255) Open Broken) (λ c. ltb-true s 16 c) (λ f. either (eqb s 255) Open Broken (λ o. tt) (λ w. tt)))
-      (λ f. either last (Append s) Broken (λ (l : last ≡ true). there l) (λ w. tt))
+      let only : Option Entry = cond (eqb s 255) (Some Open) None in
+      either (eqb n (length js)) (cond code (Some (OpenAppend s)) only) (cond last (Some (Append s)) None)
+      (λ t. either code (Some (OpenAppend s)) only (λ c. ltb-true s 16 c) (λ f. either (eqb s 255) (Some Open) None (λ o. tt) (λ w. tt)))
+      (λ f. either last (Some (Append s)) None (λ (l : last ≡ true). there l) (λ w. tt))
     where
       there : (eqb (n + 1) (length js) && ltb s 16) ≡ true → (s < 16) × (1 ≤ length js)
       there l =
@@ -66,20 +68,20 @@ none_holds false false false true e = absurd (omega arith)
 none_holds false false false false e = (refl, refl, refl, refl)
 
 module _ (js : List (List ℕ)) where
-  taken : (e : Entry) → entry_number e js ≡ 0 → (is_broken e ≡ false) × (none_free e js ≡ false) × (last_full e js ≡ false) × (rows_passed e js ≡ false)
+  taken : (e : Option Entry) → entry_number e js ≡ 0 → (is_broken e ≡ false) × (none_free e js ≡ false) × (last_full e js ≡ false) × (rows_passed e js ≡ false)
   unfolding entry_number
   taken e z = none_holds (is_broken e) (none_free e js) (last_full e js) (rows_passed e js) z
 
   -- after an entry that is taken there are at most 1,000 live states
-  pub means_fits : (e : Entry) → entry_number e js ≡ 0 → length (picture (means e js)) ≤ 1000
+  pub means_fits : (e : Option Entry) → entry_number e js ≡ 0 → length (picture (means e js)) ≤ 1000
   means_fits e z = ltb-false 1000 (length (picture (means e js))) (taken e z).3
 
   -- and they are those of journals
-  pub means_journals : AreJournals js → (e : Entry) → Asks js e → entry_number e js ≡ 0 → AreJournals (means e js)
+  pub means_journals : AreJournals js → (e : Option Entry) → Asks js e → entry_number e js ≡ 0 → AreJournals (means e js)
   unfolding appended
-  means_journals k Broken a z = k
-  means_journals k (Append s) a z = appended_at_journals (last_of js) s js k a.0 (leb-false 200 (steps_at (last_of js) js) (taken (Append s) z).2)
-  means_journals k Open a z = opened_journals js k (leb-false 16 (length js) (taken Open z).1)
-  means_journals k (OpenAppend s) a z =
-      let o = opened_journals js k (leb-false 16 (length js) (taken (OpenAppend s) z).1) in
+  means_journals k None a z = k
+  means_journals k (Some (Append s)) a z = appended_at_journals (last_of js) s js k a.0 (leb-false 200 (steps_at (last_of js) js) (taken (Some (Append s)) z).2)
+  means_journals k (Some Open) a z = opened_journals js k (leb-false 16 (length js) (taken (Some Open) z).1)
+  means_journals k (Some (OpenAppend s)) a z =
+      let o = opened_journals js k (leb-false 16 (length js) (taken (Some (OpenAppend s)) z).1) in
       appended_at_journals (last_of (opened js)) s (opened js) o a (omega (arith, last_opened js))

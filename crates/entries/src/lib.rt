@@ -5,4 +5,4 @@ mod entry;
 mod reader;
 
 pub use entry::{Entry, entry_of};
-pub use reader::{Read, read_entry};
+pub use reader::{LoneByte, Reader};

@@ -1,54 +1,67 @@
-// The reader: the bytes that were read and a position in them. What it reads carries the position behind it, so nobody else knows
-// how long an entry is. The functions over it are thin; `entry_at` does the work.
+// The reader: the bytes that were read and a position in them. It gives the entries one by one and moves behind each, so
+// nobody else knows how long an entry is.
 
-ghost use Rattle.std.specs.Prelude.{◌≡◌};
-ghost use Rattle.entries.specs.Reading.{read_at};
+ghost use Rattle.std.specs.Prelude.{◌≤◌, length};
+
+// The bytes end in half an entry.
+#[derive(Clone, Copy, Debug, PartialEq, Eq)]
+pub struct LoneByte;
 
 // The bytes read, and where the next entry stands in them.
-#[derive(Drop)]
-pub(crate) struct Reader<'a> {
-    pub bytes: &'a [u8],
-    pub at: usize,
+#[derive(Debug, Drop)]
+pub struct Reader<'a> {
+    bytes: &'a [u8],
+    at: usize,
+    ghost within: { at ≤ length bytes.now },
 }
 
-// What stands at a position: an entry of two bytes with the position behind it, a lone last byte, or nothing.
-#[derive(Clone, Copy)]
-pub enum Read {
-    Entry(u8, u8, usize),
-    Lone,
-    End,
-}
+impl<'a> Reader<'a> {
+    ghost use Rattle.std.specs.Prelude.{◌≡◌};
+    ghost use Rattle.entries.specs.Reading.{entries_in, read_at, entries_left};
 
-// Decides what is read: both bytes of an entry, or how the bytes end before that.
-fn entry_at(bytes: &[u8], at: usize) -> Read
-    ensures { result ≡ read_at bytes.now at }
-{
-    if bytes.len() <= at {
-        return Read::End;
+    // A reader at the first byte.
+    #[tactic(auto, unfolding(crate::specs::Reading::read_at))]
+    pub fn new(bytes: &'a [u8]) -> Reader<'a>
+        ensures { entries_left result ≡ entries_in bytes.now }
+    {
+        Reader::at(bytes, 0)
     }
-    if bytes.len() - at == 1 {
-        return Read::Lone;
+
+    // A reader at a position of the bytes, or behind the last byte where that comes first.
+    #[tactic(auto, using(std::proofs::lemmas::List::drop_min), unfolding(crate::specs::Reading::read_at))]
+    pub fn at(bytes: &'a [u8], at: usize) -> Reader<'a>
+        ensures { entries_left result ≡ read_at bytes.now at }
+    {
+        Reader {
+            bytes,
+            at: at.min(bytes.len()),
+        }
     }
-    Read::Entry(bytes[at], bytes[at + 1], at + 2)
 }
 
-// A reader at a position of the bytes.
-fn reader_at<'a>(bytes: &'a [u8], at: usize) -> Reader<'a>
-    ensures { (result.bytes ≡ bytes.entry) × (result.at ≡ at) }
-{
-    Reader { bytes, at }
-}
+impl Iterator for Reader<'_> {
+    ghost use Rattle.std.specs.Iterator.{YieldsFirst, item_count};
+    ghost use Rattle.entries.specs.Reading.{entries_left};
 
-// What stands at the reader's position.
-fn next<'a>(r: Reader<'a>) -> Read
-    ensures { result ≡ read_at r.entry.bytes.now r.entry.at }
-{
-    entry_at(r.bytes, r.at)
-}
+    // A journal number and a step, or a lone last byte.
+    type Item = Result<(u8, u8), LoneByte>;
 
-// What stands at a position of the bytes, through a reader.
-pub fn read_entry(bytes: &[u8], at: usize) -> Read
-    ensures { result ≡ read_at bytes.now at }
-{
-    next(reader_at(bytes, at))
+    ghost next_gives = { YieldsFirst entries_left };
+
+    ghost remaining = { item_count entries_left };
+
+    #[tactic(auto, using(crate::proofs::Reading::none_read, crate::proofs::Reading::lone_read, crate::proofs::Reading::entry_read))]
+    fn next(&mut self) -> Option<Result<(u8, u8), LoneByte>> {
+        match &self.bytes[self.at..] {
+            [] => None,
+            [_] => {
+                self.at += 1;
+                Some(Err(LoneByte))
+            }
+            [number, step, ..] => {
+                self.at += 2;
+                Some(Ok((*number, *step)))
+            }
+        }
+    }
 }

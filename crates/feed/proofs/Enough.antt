@@ -7,6 +7,7 @@ use mathlib.Core.List.{List, [], ◌∷◌}
 use lib.ListN.{length, take, replicate, length-append}
 use lib.Dec.{eqb}
 use borrow.Author.Tests.{eqb-true}
+use Rattle.std.specs.Prelude.{Option, Some, None}
 use Rattle.words.specs.Journals.{opened, appended_at, appended, last_of}
 use Rattle.words.specs.Words.{EachJournal, AreJournals}
 use Rattle.words.proofs.Journals.{length_opened}
@@ -17,7 +18,7 @@ use Rattle.records.specs.RowBook.{row_book}
 use Rattle.entries.specs.Entry.{entry_of}
 use Rattle.entries.specs.Meaning.{means, entry_number, Meant, meant_from, entries_mean}
 use Rattle.entries.specs.declared.entry.Entry.{Entry}
-use Rattle.entries.specs.declared.entry.Entry.TheVariants.{Broken, Append, Open, OpenAppend}
+use Rattle.entries.specs.declared.entry.Entry.TheVariants.{Append, Open, OpenAppend}
 use Rattle.entries.proofs.Meaning.{Asks, asks, means_journals}
 use Rattle.feed.specs.Entry.{AfterFeeding, feed_call}
 use Rattle.feed.proofs.FeedMeans.{FedAs, loaded}
@@ -46,12 +47,12 @@ size_appended (suc i) s (j ∷ js) h = omega (arith, size_appended i s js (omega
 
 module _ (js : List (List ℕ)) where
   -- an entry that is taken adds a journal or a step
-  grows : (e : Entry) → Asks js e → entry_number e js ≡ 0 → size js < size (means e js)
+  grows : (e : Option Entry) → Asks js e → entry_number e js ≡ 0 → size js < size (means e js)
   unfolding entry_number appended
-  grows Broken a z = absurd (omega arith)
-  grows (Append s) a z = omega (arith, size_appended (last_of js) s js (omega (arith, a.1)))
-  grows Open a z = omega (arith, size_opened js)
-  grows (OpenAppend s) a z = omega (arith, size_opened js, size_appended (last_of (opened js)) s (opened js) (omega (arith, length_opened js)))
+  grows None a z = absurd (omega arith)
+  grows (Some (Append s)) a z = omega (arith, size_appended (last_of js) s js (omega (arith, a.1)))
+  grows (Some Open) a z = omega (arith, size_opened js)
+  grows (Some (OpenAppend s)) a z = omega (arith, size_opened js, size_appended (last_of (opened js)) s (opened js) (omega (arith, length_opened js)))
 
 -- with room for m entries more, only the bytes of m + 1 entries matter
 enough_from : (m n i : ℕ) (js : List (List ℕ)) → AreJournals js → 3216 ≤ size js + m → 2 * m + 2 ≤ n → (entries : List ℕ)
@@ -62,14 +63,14 @@ enough_from m (suc zero) i js k h b entries = absurd (omega arith)
 enough_from m (suc (suc n)) i js k h b [] = refl
 enough_from m (suc (suc n)) i js k h b (x ∷ []) = refl
 enough_from zero (suc (suc n)) i js k h b (x ∷ s ∷ rest) =
-    let e : Entry = entry_of (length js) x s in
+    let e : Option Entry = entry_of (length js) x s in
     test (eqb (entry_number e js) 0)
     (λ t.
     let z = eqb-true (entry_number e js) 0 t in
     absurd (omega (arith, grows js e (asks js x s) z, size_most (means e js) (means_journals js k e (asks js x s) z))))
     (λ f. rw f)
 enough_from (suc m) (suc (suc n)) i js k h b (x ∷ s ∷ rest) =
-    let e : Entry = entry_of (length js) x s in
+    let e : Option Entry = entry_of (length js) x s in
     test (eqb (entry_number e js) 0)
     (λ t.
     let z = eqb-true (entry_number e js) 0 t in

@@ -1,11 +1,17 @@
 -- Opening and appending by their cases, and both as a whole: refused, or done. Assumes nothing.
 use Prim.Native.Nat.{ℕ}
 use native.Mathlib.Omega.{arith}
-use mathlib.Core.Path.{◌≡◌, ap, ◌∙◌}
+use mathlib.Core.Path.{◌≡◌, ap, sym, ◌∙◌}
 use mathlib.Core.Bool.{false}
 use mathlib.Core.List.{List}
+use lib.ListN.{length}
+use lib.Dec.{eqb}
 use borrow.Author.Tests.{eq-eqb, ne_eqb}
+use Rattle.std.proofs.Math.Bool.{and-false}
 use Rattle.records.specs.Sound.{right_sizes}
+use Rattle.books.specs.Answers.{number_of}
+use Rattle.books.specs.declared.refused.Refused.{Refused}
+use Rattle.books.proofs.RefusalNumbers.{refusal_told}
 use Rattle.books.specs.Numbers.{first}
 use Rattle.books.specs.Clear.{After, after}
 use Rattle.books.specs.Open.{open_refusals, open_call}
@@ -26,18 +32,32 @@ module _ (jb rb : List ℕ) (s : ℕ) where
     unfolding open_append
     opening_done z = rw (← o, eq-eqb n 0 z)
 
-  module _ (n : ℕ) (aj ar : List ℕ) (a : after n aj ar ≡ open_append jb rb s) where
-    -- both as a whole: a refusal leaves the books
-    pub whole_refused : (n ≡ 0 → ⊥) → after n jb rb ≡ open_append_whole jb rb s
-    unfolding open_append_whole
-    whole_refused h = rw (← a, refused n aj jb h, refused n ar rb h)
+  -- both as a whole: a refusal leaves the books
+  pub whole_refused : ((open_append jb rb s).number ≡ 0 → ⊥) → open_append_whole jb rb s ≡ after (open_append jb rb s).number jb rb
+  unfolding open_append_whole
+  whole_refused h =
+      let a : After = open_append jb rb s in
+      rw (refused a.number a.journals jb h, refused a.number a.rows rb h)
 
-    pub whole_done : n ≡ 0 → after 0 aj ar ≡ open_append_whole jb rb s
-    unfolding open_append_whole
-    whole_done z = rw (← a, z)
+  -- so it does where the code refuses
+  pub whole_stays : (e : Refused) (oj or : List ℕ) → after (number_of e) oj or ≡ open_append jb rb s → after (number_of e) jb rb ≡ open_append_whole jb rb s
+  whole_stays e oj or h =
+      let n : number_of e ≡ (open_append jb rb s).number = ap (λ (a : After). a.number) h in
+      rw n (sym (whole_refused (λ z. refusal_told e (n ∙ z))))
+
+  -- where opening is refused
+  pub whole_unopened : (n : ℕ) → (n ≡ 0 → ⊥) → after n jb rb ≡ open_call jb rb → open_append_whole jb rb s ≡ after n jb rb
+  unfolding open_append_whole
+  whole_unopened n h o = rw (← opening_refused n jb rb o h, refused n jb jb h, refused n rb rb h)
 
   -- wrong sizes are a refusal of opening
-  pub whole_size : right_sizes jb rb ≡ false → after 1 jb rb ≡ open_append_whole jb rb s
+  whole_size : right_sizes jb rb ≡ false → open_append_whole jb rb s ≡ after 1 jb rb
   whole_size f =
       let one : 1 ≡ first (open_refusals jb rb) = rw f in
-      whole_refused 1 jb rb (opening_refused 1 jb rb (open_refused jb rb 1 one (λ z. omega arith)) (λ z. omega arith)) (λ z. omega arith)
+      whole_unopened 1 (λ z. omega arith) (open_refused jb rb 1 one (λ z. omega arith))
+
+  pub whole_journals : (length jb ≡ 4096 → ⊥) → open_append_whole jb rb s ≡ after 1 jb rb
+  whole_journals h = whole_size (rw (ne_eqb (length jb) 4096 h))
+
+  pub whole_rows : (length rb ≡ 64000 → ⊥) → open_append_whole jb rb s ≡ after 1 jb rb
+  whole_rows h = whole_size (rw (ne_eqb (length rb) 64000 h, and-false (eqb (length jb) 4096)))

@@ -8,6 +8,7 @@ use mathlib.Core.List.{List}
 use lib.ListN.{length}
 use lib.Dec.{leb}
 use borrow.Author.Tests.{lt-leb, le-ltb, leb-false}
+use Rattle.std.specs.Prelude.{Option, Some, None}
 use Rattle.words.specs.Journals.{opened, appended, last_of}
 use Rattle.words.specs.Picture.{picture}
 use Rattle.words.specs.Words.{AreJournals}
@@ -30,10 +31,10 @@ use Rattle.books.proofs.OpenJournalsCases.{open_books}
 use Rattle.entries.specs.Entry.{entry_of}
 use Rattle.entries.specs.Meaning.{means, entry_number}
 use Rattle.entries.specs.declared.entry.Entry.{Entry}
-use Rattle.entries.specs.declared.entry.Entry.TheVariants.{Broken, Append, Open, OpenAppend}
+use Rattle.entries.specs.declared.entry.Entry.TheVariants.{Append, Open, OpenAppend}
 use Rattle.entries.proofs.Meaning.{Asks, asks, last_opened, means_fits, means_journals}
 use Rattle.feed.specs.Entry.{open_append, open_append_whole, enter, entry_call}
-use Rattle.feed.proofs.EntryCases.{opening_refused, opening_done, whole_refused}
+use Rattle.feed.proofs.EntryCases.{opening_done, whole_unopened}
 
 -- the books of the journals
 abbrev pub Rebooked : List (List ℕ) → Type 0
@@ -43,7 +44,7 @@ books_of : (js : List (List ℕ)) → AreJournals js → length (picture js) ≤
 books_of js k f = record { journals = k; fits = f; journal_book_is = refl; row_book_is = refl }
 
 module _ {js : List (List ℕ)} {jb rb : List ℕ} (b : BooksOf js jb rb) where
-  append_means : (s : ℕ) → s < 16 → 1 ≤ length js → append_call jb rb s ≡ written (entry_number (Append s) js) (appended s js) jb rb
+  append_means : (s : ℕ) → s < 16 → 1 ≤ length js → append_call jb rb s ≡ written (entry_number (Some (Append s)) js) (appended s js) jb rb
   unfolding append_call append_at_call appended entry_number
   append_means s c k = rw (books_journals b, books_sizes b, books_sound b, lt-leb 16 s c, lt-leb (length js) (last_of js) (omega arith))
 
@@ -51,7 +52,7 @@ module _ {js : List (List ℕ)} {jb rb : List ℕ} (b : BooksOf js jb rb) where
   opened_fits : length (picture (opened js)) ≤ 1000
   opened_fits = omega (arith, never_more js (short js b.journals.each), b.fits)
 
-  open_means : open_call jb rb ≡ written (entry_number Open js) (opened js) jb rb
+  open_means : open_call jb rb ≡ written (entry_number (Some Open) js) (opened js) jb rb
   unfolding open_call entry_number
   open_means = rw (books_journals b, books_sizes b, books_sound b, le-ltb 1000 (length (picture (opened js))) opened_fits)
 
@@ -63,11 +64,11 @@ whole_left (suc m) ks oj or jb rb = refl
 
 module _ {js : List (List ℕ)} {jb rb : List ℕ} (b : BooksOf js jb rb) where
   -- with 16 journals open, both are refused
-  whole_full : (s : ℕ) → leb 16 (length js) ≡ true → open_append_whole jb rb s ≡ written (entry_number (OpenAppend s) js) (means (OpenAppend s) js) jb rb
+  whole_full : (s : ℕ) → leb 16 (length js) ≡ true → open_append_whole jb rb s ≡ written (entry_number (Some (OpenAppend s)) js) (means (Some (OpenAppend s)) js) jb rb
   unfolding entry_number
   whole_full s t =
       let no : open_call jb rb ≡ after 7 jb rb = open_means b ∙ rw t in
-      rw t (sym (whole_refused jb rb s 7 jb rb (opening_refused jb rb s 7 jb rb (sym no) (λ z. omega arith)) (λ z. omega arith)))
+      rw t (whole_unopened jb rb s 7 (λ z. omega arith) (sym no))
 
   -- with room, the append to the journal just opened decides
   module _ (f : leb 16 (length js) ≡ false) where
@@ -79,29 +80,29 @@ module _ {js : List (List ℕ)} {jb rb : List ℕ} (b : BooksOf js jb rb) where
     opens = open_means b ∙ rw (f, le-ltb 1000 (length (picture (opened js))) (opened_fits b))
 
     both : (s : ℕ) → s < 16
-        → open_append jb rb s ≡ written (entry_number (Append s) (opened js)) (appended s (opened js)) (journal_book (opened js)) (row_book (opened js))
+        → open_append jb rb s ≡ written (entry_number (Some (Append s)) (opened js)) (appended s (opened js)) (journal_book (opened js)) (row_book (opened js))
     both s c =
         sym (opening_done jb rb s 0 (journal_book (opened js)) (row_book (opened js)) (sym opens) refl)
         ∙ append_means there s c (omega (arith, length_opened js))
 
-    same_number : (s : ℕ) → entry_number (Append s) (opened js) ≡ entry_number (OpenAppend s) js
+    same_number : (s : ℕ) → entry_number (Some (Append s)) (opened js) ≡ entry_number (Some (OpenAppend s)) js
     unfolding entry_number
     same_number s = rw (last_opened js, f)
 
-    whole_free : (s : ℕ) → s < 16 → open_append_whole jb rb s ≡ written (entry_number (OpenAppend s) js) (means (OpenAppend s) js) jb rb
+    whole_free : (s : ℕ) → s < 16 → open_append_whole jb rb s ≡ written (entry_number (Some (OpenAppend s)) js) (means (Some (OpenAppend s)) js) jb rb
     unfolding open_append_whole
     whole_free s c =
         ap (λ (a : After). leaves a.number a.journals a.rows jb rb) (both s c)
-        ∙ whole_left (entry_number (Append s) (opened js)) (appended s (opened js)) (journal_book (opened js)) (row_book (opened js)) jb rb
+        ∙ whole_left (entry_number (Some (Append s)) (opened js)) (appended s (opened js)) (journal_book (opened js)) (row_book (opened js)) jb rb
         ∙ ap (λ (m : ℕ). written m (appended s (opened js)) jb rb) (same_number s)
 
   -- what is asked for
-  pub enter_means : (e : Entry) → Asks js e → enter e jb rb ≡ written (entry_number e js) (means e js) jb rb
+  pub enter_means : (e : Option Entry) → Asks js e → enter e jb rb ≡ written (entry_number e js) (means e js) jb rb
   unfolding enter entry_number
-  enter_means Broken a = refl
-  enter_means (Append s) a = append_means b s a.0 a.1
-  enter_means Open a = open_means b
-  enter_means (OpenAppend s) a = test (leb 16 (length js)) (whole_full s) (λ f. whole_free f s a)
+  enter_means None a = refl
+  enter_means (Some (Append s)) a = append_means b s a.0 a.1
+  enter_means (Some Open) a = open_means b
+  enter_means (Some (OpenAppend s)) a = test (leb 16 (length js)) (whole_full s) (λ f. whole_free f s a)
 
   told : first (open_journals_refusals jb) ≡ 0
   unfolding open_journals_call
@@ -116,5 +117,5 @@ module _ {js : List (List ℕ)} {jb rb : List ℕ} (b : BooksOf js jb rb) where
   -- done, it leaves the books of journals
   pub entry_books : (n s : ℕ) → entry_number (entry_of (length js) n s) js ≡ 0 → Rebooked (means (entry_of (length js) n s) js)
   entry_books n s z =
-      let e : Entry = entry_of (length js) n s in
+      let e : Option Entry = entry_of (length js) n s in
       books_of (means e js) (means_journals js b.journals e (asks js n s) z) (means_fits js e z)

@@ -6,6 +6,7 @@ use mathlib.Core.List.{List, [], ◌∷◌}
 use lib.ListN.{length, replicate}
 use lib.Dec.{eqb}
 use borrow.Author.Tests.{eqb-true}
+use Rattle.std.specs.Prelude.{Option}
 use Rattle.words.proofs.Test.{test}
 use Rattle.records.specs.Sizes.{journal_book_size, row_book_size}
 use Rattle.records.specs.JournalBook.{journal_book}
@@ -31,7 +32,7 @@ unfolding meant_from feed_from
 from_means i js jb rb b [] = record { number = refl; taken = refl; books = b }
 from_means i js jb rb b (n ∷ []) = record { number = refl; taken = refl; books = b }
 from_means i js jb rb b (n ∷ s ∷ rest) =
-    let e : Entry = entry_of (length js) n s in
+    let e : Option Entry = entry_of (length js) n s in
     test (eqb (entry_number e js) 0)
     (λ t.
     let z = eqb-true (entry_number e js) 0 t in

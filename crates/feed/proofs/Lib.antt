@@ -1,7 +1,5 @@
 pub mod OneOutcome
 pub mod EntryCases
-pub mod Entering
-pub mod TakeCases
 pub mod Entries
 pub mod FeedCases
 pub mod Numbers

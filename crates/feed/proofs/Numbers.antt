@@ -5,6 +5,7 @@ use mathlib.Core.Bool.{true, false, cond}
 use mathlib.Core.List.{List, ◌∷◌, ◌++◌}
 use lib.ListN.{length}
 use lib.Dec.{eqb}
+use Rattle.std.specs.Prelude.{Option, Some, None}
 use Rattle.words.proofs.Test.{test}
 use Rattle.records.specs.JournalBook.{journal_form, journals_of}
 use Rattle.records.specs.Sound.{right_sizes, sound, BooksOf}
@@ -18,7 +19,7 @@ use Rattle.books.proofs.Refusals.{first_given}
 use Rattle.entries.specs.Entry.{entry_of}
 use Rattle.entries.specs.Meaning.{is_broken, entry_number}
 use Rattle.entries.specs.declared.entry.Entry.{Entry}
-use Rattle.entries.specs.declared.entry.Entry.TheVariants.{Broken, Append, Open, OpenAppend}
+use Rattle.entries.specs.declared.entry.Entry.TheVariants.{Append, Open, OpenAppend}
 use Rattle.entries.proofs.Meaning.{Asks, asks}
 use Rattle.feed.specs.Entry.{open_append, open_append_whole, enter, broken_refusal, room_refusals, entry_refusals, enter_refusals, entry_call_refusals, entry_call}
 use Rattle.feed.proofs.EntryMeans.{enter_means, entry_means}
@@ -36,25 +37,25 @@ book_first jb qs = test (eqb (length jb) 4096) (λ t. rw t (test (journal_form j
 
 module _ (jb rb : List ℕ) where
   -- of an entry that isn't broken, wrong sizes and then damaged books are seen before anything else
-  enter_size : (e : Entry) → right_sizes jb rb ≡ false → (enter e jb rb).number ≡ cond (is_broken e) 11 1
+  enter_size : (e : Option Entry) → right_sizes jb rb ≡ false → (enter e jb rb).number ≡ cond (is_broken e) 11 1
   unfolding enter append_call append_at_call open_call open_append open_append_whole
-  enter_size Broken f = refl
-  enter_size (Append s) f = rw f
-  enter_size Open f = rw f
-  enter_size (OpenAppend s) f = rw f
+  enter_size None f = refl
+  enter_size (Some (Append s)) f = rw f
+  enter_size (Some Open) f = rw f
+  enter_size (Some (OpenAppend s)) f = rw f
 
-  enter_damaged : (e : Entry) → right_sizes jb rb ≡ true → sound jb rb ≡ false → (enter e jb rb).number ≡ cond (is_broken e) 11 2
+  enter_damaged : (e : Option Entry) → right_sizes jb rb ≡ true → sound jb rb ≡ false → (enter e jb rb).number ≡ cond (is_broken e) 11 2
   unfolding enter append_call append_at_call open_call open_append open_append_whole
-  enter_damaged Broken t f = refl
-  enter_damaged (Append s) t f = rw (t, f)
-  enter_damaged Open t f = rw (t, f)
-  enter_damaged (OpenAppend s) t f = rw (t, f)
+  enter_damaged None t f = refl
+  enter_damaged (Some (Append s)) t f = rw (t, f)
+  enter_damaged (Some Open) t f = rw (t, f)
+  enter_damaged (Some (OpenAppend s)) t f = rw (t, f)
 
-  enter_sound : (e : Entry) → Asks (journals_of jb) e → sound jb rb ≡ true → (enter e jb rb).number ≡ first (broken_refusal e ∷ room_refusals (journals_of jb) e)
+  enter_sound : (e : Option Entry) → Asks (journals_of jb) e → sound jb rb ≡ true → (enter e jb rb).number ≡ first (broken_refusal e ∷ room_refusals (journals_of jb) e)
   unfolding entry_number
   enter_sound e a t = ap (λ (x : After). x.number) (enter_means (sound_books jb rb t) e a)
 
-  enter_number : (e : Entry) → Asks (journals_of jb) e → (enter e jb rb).number ≡ first (enter_refusals jb rb e)
+  enter_number : (e : Option Entry) → Asks (journals_of jb) e → (enter e jb rb).number ≡ first (enter_refusals jb rb e)
   enter_number e a =
       test (right_sizes jb rb) (λ t. test (sound jb rb) (λ u. rw (t, u) (enter_sound e a u)) (λ f. rw (t, f) (enter_damaged e t f))) (λ f. rw f (enter_size e f))
 
@@ -64,7 +65,7 @@ module _ (jb rb : List ℕ) where
   entry_call_numbers n s =
       subst (Given (entry_call_refusals jb rb n s)) (book_first jb (enter_refusals jb rb asked) ∙ sym number) (first_given (entry_call_refusals jb rb n s))
     where
-      asked : Entry
+      asked : Option Entry
       asked = entry_of (length (journals_of jb)) n s
 
       number : (entry_call jb rb n s).number ≡ cond (eqb (first (open_journals_refusals jb)) 0) (first (enter_refusals jb rb asked)) (first (open_journals_refusals jb))

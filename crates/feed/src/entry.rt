@@ -1,61 +1,64 @@
 // One entry: what it does to the books.
 
 ghost use Rattle.std.specs.Prelude.{◌≡◌};
+ghost use Rattle.books.specs.Answers.{number_in};
 ghost use Rattle.books.specs.Clear.{after};
-ghost use Rattle.feed.specs.Entry.{open_append, open_append_whole, entry_call};
+ghost use Rattle.feed.specs.Entry.{open_append, open_append_whole, entry_call, take_call};
 
-use books::number::{BROKEN_ENTRY, DONE, WRONG_SIZE};
-use entries::{Entry, entry_of};
-use lent_bytes::copy_all;
+use books::Refused;
+use entries::{Entry, LoneByte, entry_of};
 use records::{JOURNAL_BOOK, ROW_BOOK};
 
 // Opens the next journal and, where that is done, appends to it.
-fn open_append(journals: &mut [u8], rows: &mut [u8], step: u8) -> u8
-    ensures { after result journals.new rows.new ≡ open_append journals.old rows.old step }
+#[tactic(auto, unfolding(crate::specs::Entry::open_append))]
+fn open_append(journals: &mut [u8], rows: &mut [u8], step: u8) -> Result<(), Refused>
+    ensures { after (number_in result) journals.new rows.new ≡ open_append journals.old rows.old step }
 {
-    let number = writing::open(journals, rows);
-    if number != DONE {
-        return number;
-    }
+    writing::open(journals, rows)?;
     writing::append(journals, rows, step)
 }
 
 // Opens the next journal and appends to it, or does neither: on copies of the books until both are done.
-fn open_append_whole(journals: &mut [u8], rows: &mut [u8], step: u8) -> u8
-    ensures { after result journals.new rows.new ≡ open_append_whole journals.old rows.old step }
+#[tactic(auto, using(crate::proofs::EntryCases::whole_journals, crate::proofs::EntryCases::whole_rows, crate::proofs::EntryCases::whole_stays), unfolding(crate::specs::Entry::open_append_whole))]
+fn open_append_whole(journals: &mut [u8], rows: &mut [u8], step: u8) -> Result<(), Refused>
+    ensures { after (number_in result) journals.new rows.new ≡ open_append_whole journals.old rows.old step }
 {
-    if journals.len() != JOURNAL_BOOK {
-        return WRONG_SIZE;
-    }
-    if rows.len() != ROW_BOOK {
-        return WRONG_SIZE;
-    }
-    let mut new_journals = [0u8; JOURNAL_BOOK];
-    let mut new_rows = [0u8; ROW_BOOK];
-    copy_all(journals, &mut new_journals);
-    copy_all(rows, &mut new_rows);
-    let both = open_append(&mut new_journals, &mut new_rows, step);
-    if both != DONE {
-        return both;
-    }
-    copy_all(&new_journals, journals);
-    copy_all(&new_rows, rows);
-    DONE
+    let Ok(mut new_journals) = <[u8; JOURNAL_BOOK]>::try_from(&*journals) else {
+        return Err(Refused::WrongSize);
+    };
+    let Ok(mut new_rows) = <[u8; ROW_BOOK]>::try_from(&*rows) else {
+        return Err(Refused::WrongSize);
+    };
+    open_append(&mut new_journals, &mut new_rows, step)?;
+    journals.copy_from_slice(&new_journals);
+    rows.copy_from_slice(&new_rows);
+    Ok(())
 }
 
 // Takes one entry, whole or not at all.
-pub fn enter(journals: &mut [u8], rows: &mut [u8], number: u8, step: u8) -> u8
-    ensures { after result journals.new rows.new ≡ entry_call journals.old rows.old number step }
+#[tactic(auto, unfolding(crate::specs::Entry::entry_call, crate::specs::Entry::enter, books::specs::OpenJournals::open_journals_call))]
+pub fn enter(journals: &mut [u8], rows: &mut [u8], number: u8, step: u8) -> Result<(), Refused>
+    ensures { after (number_in result) journals.new rows.new ≡ entry_call journals.old rows.old number step }
 {
-    let known = reading::open_journals(journals);
-    let wrong = known.number;
-    if wrong != DONE {
-        return wrong;
+    let k = reading::open_journals(journals)?;
+    match entry_of(k, number, step) {
+        None => Err(Refused::BrokenEntry),
+        Some(Entry::Append(s)) => writing::append(journals, rows, s),
+        Some(Entry::Open) => writing::open(journals, rows),
+        Some(Entry::OpenAppend(s)) => open_append_whole(journals, rows, s),
     }
-    match entry_of(known.journals, number, step) {
-        Entry::Broken => BROKEN_ENTRY,
-        Entry::Append(s) => writing::append(journals, rows, s),
-        Entry::Open => writing::open(journals, rows),
-        Entry::OpenAppend(s) => open_append_whole(journals, rows, s),
+}
+
+// Takes what was read, whole or not at all; a lone last byte is broken.
+pub(crate) fn take(
+    journals: &mut [u8],
+    rows: &mut [u8],
+    read: Result<(u8, u8), LoneByte>,
+) -> Result<(), Refused>
+    ensures { after (number_in result) journals.new rows.new ≡ take_call journals.old rows.old read }
+{
+    match read {
+        Ok((number, step)) => enter(journals, rows, number, step),
+        Err(LoneByte) => Err(Refused::BrokenEntry),
     }
 }

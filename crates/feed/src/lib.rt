@@ -2,39 +2,33 @@
 #![tactic(auto)]
 
 mod entry;
-mod take;
 
 ghost use Rattle.std.specs.Prelude.{◌≡◌};
 ghost use Rattle.feed.specs.Entry.{fed, feed_call};
 
-use books::number::DONE;
+use books::Refused;
+use entries::Reader;
 pub use entry::enter;
-use take::{Taken, take_at};
+use entry::take;
 
-// How many entries were taken, and the number of the refusal that ended them, or 0.
-#[derive(Clone, Copy)]
-pub struct Fed {
-    pub number: u8,
+// The refusal that ended a row of entries, and how many were taken before it.
+#[derive(Clone, Copy, Debug, PartialEq, Eq)]
+pub struct RefusedEntry {
+    pub refused: Refused,
     pub taken: usize,
 }
 
-// Takes entries in their order until one is refused.
-pub fn feed(journals: &mut [u8], rows: &mut [u8], entries: &[u8]) -> Fed
+// Takes entries in their order until one is refused. Answers how many were taken.
+#[tactic(auto, using(crate::proofs::FeedCases::feeds, crate::proofs::FeedCases::few_in, crate::proofs::FeedCases::taken_refused), unfolding(crate::specs::Entry::feed_call))]
+pub fn feed(journals: &mut [u8], rows: &mut [u8], entries: &[u8]) -> Result<usize, RefusedEntry>
     ensures { fed result journals.new rows.new ≡ feed_call journals.old rows.old entries.now }
 {
     let mut taken = 0;
-    let mut at = 0;
-    loop {
-        match take_at(journals, rows, entries, at) {
-            Taken::Next(next) => {
-                taken += 1;
-                at = next;
-            }
-            Taken::Refused(number) => return Fed { number, taken },
-            Taken::All => return Fed {
-                number: DONE,
-                taken,
-            },
+    for read in Reader::new(entries) {
+        if let Err(refused) = take(journals, rows, read) {
+            return Err(RefusedEntry { refused, taken });
         }
+        taken += 1;
     }
+    Ok(taken)
 }

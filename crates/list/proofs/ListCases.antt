@@ -8,6 +8,7 @@ use lib.ListN.{length, take, drop, get_or, length-drop}
 use lib.Seq.{length-take-le}
 use lib.Dec.{eqb, ltb}
 use borrow.Author.Tests.{eq-eqb, eqb-true, lt-ltb, le-ltb, ltb-false, not-false}
+use Rattle.std.specs.Prelude.{Option}
 use Rattle.words.specs.Listing.{list_of}
 use Rattle.words.proofs.Dictionary.{list_ascending}
 use Rattle.words.proofs.Past.{past_suffix}
@@ -24,7 +25,7 @@ use Rattle.books.proofs.JournalCountCases.{word_wrong, word_counted, word_room}
 use Rattle.books.proofs.Refusals.{pass, neither, refused}
 use Rattle.page.specs.Written.{written}
 use Rattle.list.specs.ListCall.{Asked, wrong_output, list_refusals, due_in, due, fitting, wrote, list_call}
-use Rattle.list.specs.AfterWord.{WordIfAfter}
+use Rattle.list.specs.AfterWord.{WordIfAfter, word_if, due_from}
 use Rattle.next_word.specs.Next.{from_there, table_of}
 use Rattle.page.proofs.Ends.{EndOf, end_there}
 use Rattle.list.proofs.TableOf.{same_list, empty_count}
@@ -172,6 +173,10 @@ module _ (a : Asked) where
   -- what comes from the first word that is due on is what is due
   from_due : (m : List (List ℕ)) → m ≡ take 1 (due_in listed after r) → from_there m listed ≡ due_in listed after r
   from_due m e = rw e (end_there (due_in listed after r) listed (list_ascending (table_of rb) q n) due_end)
+
+  -- the first word that is due, after the word that the list goes on after
+  pub due_after : {w : Option (List ℕ)} {m : List (List ℕ)} → w ≡ word_if after r → m ≡ take 1 (due_from listed w) → m ≡ take 1 (due_in listed after r)
+  due_after e d = d ∙ ap (λ (w : Option (List ℕ)). take 1 (due_from listed w)) e
 
   pub due_first : (m : List (List ℕ)) → m ≡ take 1 (due_in listed after r) → m ≡ take 1 (from_there m listed)
   due_first m e = e ∙ ap (take 1) (sym (from_due m e))

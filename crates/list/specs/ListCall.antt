@@ -1,14 +1,17 @@
 -- The list call: what it answers and writes. Assumes nothing.
-use Rattle.std.specs.Prelude.{ℕ, ◌/◌, ◌%◌, Bool, false, cond, not, ◌&&◌, ◌||◌, List, [], ◌∷◌, length, take, eqb, ltb}
+use Rattle.std.specs.Prelude.{ℕ, Result, Ok, Err, ◌/◌, ◌%◌, Bool, false, not, ◌&&◌, ◌||◌, List, [], ◌∷◌, length, take, eqb, ltb}
 use Rattle.words.specs.Words.{count}
-use Rattle.words.specs.Listing.{list_of, past}
+use Rattle.words.specs.Listing.{list_of}
 use Rattle.records.specs.Sizes.{word_record_size, longest_word}
-use Rattle.books.specs.Numbers.{Refusal, first, wrong_size, damaged, wrong_length, wrong_quorum, wrong_word, unless}
+use Rattle.books.specs.Numbers.{Refusal, first, done, wrong_size, damaged, wrong_length, wrong_quorum, wrong_word, unless}
 use Rattle.records.specs.JournalBook.{journals_of}
 use Rattle.records.specs.Sound.{right_sizes, sound}
 use Rattle.records.specs.WordRecord.{word_form, word_of}
 use Rattle.page.specs.Written.{written}
-use Rattle.list.specs.declared.Listed.{Listed}
+use Rattle.list.specs.AfterWord.{word_if, due_from}
+use Rattle.books.specs.Answers.{number_of}
+use Rattle.books.specs.declared.refused.Refused.{Refused}
+use Rattle.page.specs.declared.Page.{Page}
 
 -- the most bytes that an output may have
 abbrev pub largest_output : ℕ
@@ -53,9 +56,9 @@ list_refusals a =
 abbrev pub whole_list : Asked → List (List ℕ)
 whole_list a = list_of (count (journals_of a.journals)) a.quorum a.length_limit
 
--- the list from there on: from the start, or what stands after the word, which need not be in the list itself
+-- the list from there on
 abbrev pub due_in : List (List ℕ) → Bool → List ℕ → List (List ℕ)
-due_in l after r = cond after (past (word_of r) l) l
+due_in l after r = due_from l (word_if after r)
 
 abbrev pub due : Asked → List (List ℕ)
 due a = due_in (whole_list a) a.after a.word
@@ -63,6 +66,17 @@ due a = due_in (whole_list a) a.after a.word
 -- the first words from there on, as many as fit or as remain
 abbrev pub fitting : Asked → List (List ℕ)
 fitting a = take (length a.out / word_record_size) (due a)
+
+-- what is answered: a number, how many words were written, and whether there are more
+pub record Listed : Type 0 where
+  pub number : ℕ
+  pub written : ℕ
+  pub more : Bool
+
+-- what the code's answer says
+abbrev pub listed_in : Result Page Refused → Listed
+listed_in (Ok p) = record { number = done; written = p.written; more = p.more }
+listed_in (Err e) = record { number = number_of e; written = 0; more = false }
 
 -- what is answered, and the output after it
 pub record Wrote : Type 0 where

@@ -1,18 +1,18 @@
 // Deciding the list's number, which only reads, and the first word that is due.
 
-ghost use Rattle.std.specs.Prelude.{◌≡◌, ◌||◌, [], ◌≤◌, length, take, get_or, eqb, ltb};
-ghost use Rattle.records.specs.Sizes.{word_record_size, longest_word};
-ghost use Rattle.words.specs.Listing.{list_of, Falling};
-ghost use Rattle.records.specs.WordRecord.{word_of};
+ghost use Rattle.std.specs.Prelude.{◌≡◌, true, ◌||◌, [], ◌≤◌, length, take, get_or, eqb, ltb, option_to_list, IfSome};
+ghost use Rattle.records.specs.Sizes.{word_record_size};
+ghost use Rattle.records.specs.WordRecord.{word_form};
+ghost use Rattle.books.specs.Answers.{number_in};
 ghost use Rattle.books.specs.Numbers.{first};
 ghost use Rattle.books.specs.JournalCount.{journal_count_call};
-ghost use Rattle.list.specs.ListCall.{asked, wrong_output, list_refusals, due_in};
-ghost use Rattle.list.specs.AfterWord.{WordIfAfter};
+ghost use Rattle.list.specs.ListCall.{asked, wrong_output, list_refusals};
+ghost use Rattle.list.specs.AfterWord.{word_if, due_from};
 ghost use Rattle.next_word.specs.Next.{table_of};
-ghost use Rattle.next_word.specs.Moving.{steps_in, moved, Fit};
+ghost use Rattle.next_word.specs.Searching.{words_of};
 
-use books::number::{DONE, WRONG_LENGTH, WRONG_QUORUM, WRONG_SIZE, WRONG_WORD};
-use next_word::{Moved, Word, first_from, next_word};
+use books::Refused;
+use next_word::{Search, Word};
 use records::{LONGEST_WORD, WORD_RECORD};
 
 // The most bytes that an output may have.
@@ -23,13 +23,10 @@ fn wrong_output(out: &[u8]) -> bool
     ensures { result ≡ wrong_output out.now }
 {
     let n = out.len();
-    if n % WORD_RECORD != 0 {
-        return true;
-    }
-    n < WORD_RECORD || LARGEST_OUTPUT < n
+    n % WORD_RECORD != 0 || n < WORD_RECORD || LARGEST_OUTPUT < n
 }
 
-// The number that the list answers.
+// Whether the list is refused, and with what.
 pub(crate) fn decide(
     journals: &[u8],
     rows: &[u8],
@@ -38,35 +35,32 @@ pub(crate) fn decide(
     after: bool,
     word_record: &[u8],
     out: &[u8],
-) -> u8
-    ensures { result ≡ first (list_refusals (asked journals.now rows.now quorum limit after word_record.now out.now)) }
+) -> Result<(), Refused>
+    ensures { number_in result ≡ first (list_refusals (asked journals.now rows.now quorum limit after word_record.now out.now)) }
 {
     if word_record.len() != WORD_RECORD || wrong_output(out) {
-        return WRONG_SIZE;
+        return Err(Refused::WrongSize);
     }
-    let seen = checking::check(journals, rows);
-    let number = seen.number;
-    if number != DONE {
-        return number;
-    }
+    checking::check(journals, rows)?;
     if LONGEST_WORD < limit {
-        return WRONG_LENGTH;
+        return Err(Refused::WrongLength);
     }
     if wrong_quorum(rows, quorum) {
-        return WRONG_QUORUM;
+        return Err(Refused::WrongQuorum);
     }
     if after && wrong_word(journals, limit, word_record) {
-        return WRONG_WORD;
+        return Err(Refused::WrongWord);
     }
-    DONE
+    Ok(())
 }
 
 // Whether a quorum is below 1 or above the number of journals, which is the count of the empty word.
+#[tactic(auto, using(books::proofs::RefusalNumbers::count_told), unfolding(next_word::specs::Next::table_of))]
 fn wrong_quorum(rows: &[u8], quorum: usize) -> bool
     ensures { result ≡ (ltb quorum 1 || ltb (table_of rows.now []) quorum) }
 {
-    let counted = reading::table_count(rows, &rows[..0]);
-    quorum < 1 || (counted.count as usize) < quorum
+    let k = reading::table_count(rows, &[]).unwrap_or(0);
+    quorum < 1 || usize::from(k) < quorum
 }
 
 // Whether a word record is of wrong form, which the journal count tells, or longer than the list length.
@@ -75,41 +69,26 @@ fn wrong_word(journals: &[u8], limit: usize, word_record: &[u8]) -> bool
     ensures { result ≡ (eqb (journal_count_call journals.now word_record.now).number 10 || ltb limit (get_or word_record.now 0 0)) }
 {
     let counted = reading::journal_count(journals, word_record);
-    let number = counted.number;
-    number == WRONG_WORD || limit < word_record[0] as usize
+    matches!(counted, Err(Refused::WrongWord)) || limit < usize::from(word_record[0])
 }
 
-// The word of a word record, by value.
-fn read_word(word_record: &[u8]) -> Word
-    requires { (length word_record.now ≡ word_record_size) × (get_or word_record.now 0 0 ≤ longest_word) }
-    ensures { (result.len ≡ get_or word_record.now 0 0) × (steps_in result ≡ word_of word_record.now) }
+// The word that the list goes on after, if it doesn't begin at the start.
+pub(crate) fn word_after(after: bool, word_record: &[u8]) -> Option<Word>
+    requires { after ≡ true → (length word_record.now ≡ word_record_size) × (word_form word_record.now ≡ true) }
+    ensures { result ≡ word_if after word_record.now }
 {
-    let mut steps = [0u8; LONGEST_WORD];
-    let mut i = 0;
-    while i < LONGEST_WORD {
-        steps[i] = word_record[i + 1];
-        i += 1;
-    }
-    Word {
-        steps,
-        len: word_record[0] as usize,
-    }
+    after.then(|| Word::from_record(word_record))
 }
 
-// The first word that is due: from the start, or after the word of the word record.
-pub(crate) fn first_due(
-    rows: &[u8],
-    quorum: usize,
-    limit: usize,
-    after: bool,
-    word_record: &[u8],
-) -> Moved
-    requires { (limit ≤ longest_word) × Falling (table_of rows.now) × WordIfAfter after limit word_record.now }
-    ensures to { moved result ≡ take 1 (due_in (list_of (table_of rows.now) quorum limit) after word_record.now) }
-    ensures fit { Fit limit result.word }
+// The first word that is due: from the start, or after the given word.
+#[tactic(auto, using(next_word::proofs::FromOn::from_empty))]
+pub(crate) fn first_due(search: &Search, after: Option<Word>) -> Option<Word>
+    requires { IfSome after (λ w. length w ≤ search.now.limit) }
+    ensures to { option_to_list result ≡ take 1 (due_from (words_of search.now) after) }
+    ensures short { IfSome result (λ w. length w ≤ search.now.limit) }
 {
-    if after {
-        return next_word(rows, quorum, limit, read_word(word_record));
+    match after {
+        Some(word) => search.next_word(word),
+        None => search.first_from(Word::empty()),
     }
-    first_from(rows, quorum, limit, Word::empty())
 }

@@ -4,22 +4,16 @@
 mod decide;
 
 ghost use Rattle.std.specs.Prelude.{◌≡◌};
-ghost use Rattle.list.specs.ListCall.{asked, wrote, list_call};
+ghost use Rattle.list.specs.ListCall.{asked, listed_in, wrote, list_call};
 
-use books::number::DONE;
-use decide::{decide, first_due};
-use page::write_page;
-
-// What the list answers: a number of document 01, how many words were written, and whether there are more.
-#[derive(Clone, Copy)]
-pub struct Listed {
-    pub number: u8,
-    pub written: usize,
-    pub more: bool,
-}
+use books::Refused;
+use decide::{decide, first_due, word_after};
+use next_word::Search;
+use page::{Page, write_page};
 
 // Lists the words of at most `limit` steps that at least `quorum` journals show, in dictionary order: from the start, or
 // after the word of a word record. Writes one word record each, as many as fit into the output or as remain.
+// Kept: `after` with the word record beside it, since the record's size is looked at from the start too (`list_refusals`).
 pub fn list(
     journals: &[u8],
     rows: &[u8],
@@ -28,22 +22,15 @@ pub fn list(
     after: bool,
     word_record: &[u8],
     out: &mut [u8],
-) -> Listed
-    ensures { wrote result out.new ≡ list_call (asked journals.now rows.now quorum limit after word_record.now out.old) }
+) -> Result<Page, Refused>
+    ensures { wrote (listed_in result) out.new ≡ list_call (asked journals.now rows.now quorum limit after word_record.now out.old) }
 {
-    let number = decide(journals, rows, quorum, limit, after, word_record, out);
-    if number != DONE {
-        return Listed {
-            number,
-            written: 0,
-            more: false,
-        };
-    }
-    let first = first_due(rows, quorum, limit, after, word_record);
-    let page = write_page(rows, quorum, limit, first, out);
-    Listed {
-        number: DONE,
-        written: page.written,
-        more: page.more,
-    }
+    decide(journals, rows, quorum, limit, after, word_record, out)?;
+    let search = Search {
+        rows,
+        quorum,
+        limit,
+    };
+    let first = first_due(&search, word_after(after, word_record));
+    Ok(write_page(&search, first, out))
 }

@@ -1,23 +1,22 @@
 -- A page's text grows by a line: the next record's line stands behind those before it, and a record of any content holds at most 15 steps.
 -- Assumes nothing.
-use Prim.Native.Nat.{ℕ, zero, suc, ◌+◌, ◌*◌, ◌-◌, ◌≤◌, min}
+use Prim.Native.Nat.{ℕ, zero, suc, ◌+◌, ◌*◌, ◌-◌, ◌≤◌, ◌<◌, min}
 use native.Mathlib.Omega.{arith}
 use native.Mathlib.Numerals.{add-one}
 use mathlib.Core.Path.{◌≡◌, refl, sym, ap, ◌∙◌}
 use mathlib.Core.Bool.{Bool, cond}
 use mathlib.Core.List.{List, [], ◌∷◌, ◌++◌, map}
-use lib.ListN.{length, take, drop, get_or, replicate, length-append, length-take, length-drop}
+use lib.ListN.{length, take, drop, get_or, length-take, length-drop}
 use lib.Dec.{leb, ltb}
-use lib.Seq.{take_at, take_all, drop-append-add, drop-drop, paste}
+use lib.Seq.{take_all, drop-drop}
 use borrow.Author.Tests.{le-leb, ltb-true, ltb-false}
+use Rattle.std.specs.Simd.{first_chunks}
 use Rattle.words.proofs.Test.{test}
 use Rattle.records.specs.Bytes.{records, flat}
 use Rattle.records.specs.WordRecord.{word_of}
 use Rattle.records.proofs.Flat.{flat_snoc}
 use Rattle.books.specs.TableCount.{table_count_call}
 use Rattle.text.specs.Text.{word_line}
-use Rattle.text.specs.Lines.{line_of}
-use Rattle.text.specs.declared.Line.{Line}
 use Rattle.next_word.specs.Next.{table_of}
 use Rattle.load.specs.Program.{line_by}
 use Rattle.load.specs.Page.{page_lines}
@@ -45,20 +44,6 @@ lines_more rb i page =
     ∙ ap lines (map_more word_of (records 16 i page) r)
     ∙ flat_snoc (line_by (table_of rb)) (map word_of (records 16 i page)) (word_of r)
 
--- a line pasted behind what stands in the text
-pub pasted_behind : (text before old t : List ℕ) (end : ℕ) → end ≡ length before → text ≡ before ++ drop end old
-    → paste text end (line_of t).bytes (line_of t).len ≡ before ++ t ++ drop (end + (line_of t).len) old
-unfolding line_of
-pasted_behind text before old t end e h =
-    let zeros : List ℕ = replicate (96 - length t) 0 in
-    let front : take end text ≡ before = ap (take end) h ∙ take_at before (drop end old) end (sym e) in
-    let line : take (length t) (t ++ zeros) ≡ t = take_at t zeros (length t) refl in
-    let behind : drop (end + length t) text ≡ drop (end + length t) old =
-    ap (drop (end + length t)) h
-    ∙ ap (λ (n : ℕ). drop (n + length t) (before ++ drop end old)) e
-    ∙ drop-append-add before (drop end old) (length t) ∙ drop-drop (length t) end old in
-    rw (front, line, behind)
-
 -- a record of 16 bytes has at most 15 behind its length, whatever that says
 pub record_word : (r : List ℕ) → length r ≡ 16 → take (1 + min (get_or r 0 0) 15 - 1) (drop 1 r) ≡ word_of r
 record_word r l =
@@ -72,27 +57,20 @@ record_word r l =
     take_all (1 + min n 15 - 1) (drop 1 r) (omega arith) ∙ sym (take_all n (drop 1 r) (omega arith)))
 
 -- the line that is made of a record's word, however many steps its first byte says
-pub record_line : (rb r part : List ℕ) (line : Line) → length r ≡ 16 → part ≡ take (1 + min (get_or r 0 0) 15 - 1) (drop 1 r)
-    → line ≡ line_of (cond (leb (length part) 15) (word_line (table_count_call rb part).count part) []) → line ≡ line_of (line_by (table_of rb) (word_of r))
+pub record_line : (rb r part line : List ℕ) → length r ≡ 16 → part ≡ take (1 + min (get_or r 0 0) 15 - 1) (drop 1 r)
+    → line ≡ cond (leb (length part) 15) (word_line (table_count_call rb part).count part) [] → line ≡ line_by (table_of rb) (word_of r)
 unfolding table_of
 record_line rb r part line l p e =
     let k : length part ≤ 15 = omega (arith, ap length p, length-take (1 + min (get_or r 0 0) 15 - 1) (drop 1 r)) in
     let w : part ≡ word_of r = p ∙ record_word r l in
-    e ∙ ap (λ (b : Bool). line_of (cond b (word_line (table_count_call rb part).count part) [])) (le-leb (length part) 15 k)
-    ∙ ap (λ (x : List ℕ). line_of (word_line (table_count_call rb x).count x)) w
+    e ∙ ap (λ (b : Bool). cond b (word_line (table_count_call rb part).count part) []) (le-leb (length part) 15 k)
+    ∙ ap (λ (x : List ℕ). word_line (table_count_call rb x).count x) w
 
--- the next record's line put behind the others
-pub line_put : (rb page old text : List ℕ) (i end : ℕ) → end ≡ length (page_lines rb i page) → text ≡ page_lines rb i page ++ drop end old
-    → (r : List ℕ) → r ≡ take 16 (drop (16 * i) page) → (line : Line) → line ≡ line_of (line_by (table_of rb) (word_of r))
-    → (end' : ℕ) → end' ≡ end + line.len → (text' : List ℕ) → text' ≡ paste text end line.bytes line.len
-    → (end' ≡ length (page_lines rb (i + 1) page)) × (text' ≡ page_lines rb (i + 1) page ++ drop end' old)
-unfolding line_of
-line_put rb page old text i end e h r f line g end' n text' u =
-    let t : List ℕ = line_by (table_of rb) (word_of (take 16 (drop (16 * i) page))) in
-    let before : List ℕ = page_lines rb i page in
-    let l : line ≡ line_of t = g ∙ ap (λ (x : List ℕ). line_of (line_by (table_of rb) (word_of x))) f in
-    let k : end' ≡ end + length t = n ∙ ap (λ (x : Line). end + x.len) l in
-    let m = lines_more rb i page in (
-      k ∙ ap (λ (x : ℕ). x + length t) e ∙ sym (length-append before t) ∙ ap length (sym m),
-      u ∙ ap (λ (x : Line). paste text end x.bytes x.len) l ∙ pasted_behind text before old t end e h ∙ rw (m, k),
-    )
+-- the records of a page as the library cuts them
+pub record_at : (m n w i : ℕ) (b : List ℕ) → w ≤ n → i < w → get_or (take w (first_chunks m n b)) i [] ≡ take m (drop (m * i) b)
+record_at m n zero i b l h = absurd (omega arith)
+record_at m zero (suc w) i b l h = absurd (omega arith)
+record_at m (suc n) (suc w) zero b l h = let e : m * 0 ≡ 0 = omega arith in rw e
+record_at m (suc n) (suc w) (suc i) b l h =
+    let e : m * suc i ≡ m + m * i = omega arith in
+    rw (record_at m n w i (drop m b) (omega arith) (omega arith), e, ← drop-drop (m * i) m b)

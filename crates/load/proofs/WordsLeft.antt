@@ -9,7 +9,7 @@ use lib.ListN.{length, take, drop, length-take}
 use Rattle.records.specs.WordRecord.{word_record}
 use Rattle.list.specs.ListCall.{Asked, whole_list, due, due_in, fitting, Wrote, wrote, list_call}
 use Rattle.list.specs.Parts.{words_in, last_word}
-use Rattle.list.specs.declared.Listed.{Listed}
+use Rattle.list.specs.ListCall.{Listed}
 use Rattle.list.proofs.Parts.{part_counts, whole_counts, last_record}
 
 module _ (a : Asked) (r : Listed) (page : List ℕ) (e : wrote r page ≡ list_call a) (z : r.number ≡ 0) (p : length a.out ≡ 16384) where

@@ -118,23 +118,13 @@ onto_cases : (s : ℕ) (ds : List (List ℕ)) (d : List ℕ) → Memᴰ d (onto 
 onto_cases s (v ∷ ds) d m = inr (v, Memᴰ.head refl, Memᴰ.eq_of_singleton m)
 onto_cases s [] d m = test (ltb s 15) (λ t. inl (ltb-true s 15 t, Memᴰ.eq_of_singleton (rw t at m))) (λ n. absurd (Memᴰ.not-nil (rw n at m)))
 
--- a word moves to a word, and to none that is longer
-pub climbed_word : (c d : List ℕ) → IsWord c → Memᴰ d (climbed c) → IsWord d × (length d ≤ length c)
-unfolding climbed
-climbed_word [] d k m = absurd (Memᴰ.not-nil m)
-climbed_word (s ∷ c) d k m = go (λ v i. climbed_word c v k.1 i) (onto_cases s (climbed c) d m)
-  where
-    go : ((v : List ℕ) → Memᴰ v (climbed c) → IsWord v × (length v ≤ length c)) → Onto s (climbed c) d → IsWord d × (length d ≤ suc (length c))
-    go ih (inl p) = rw p.1 ((omega arith, tt), omega arith)
-    go ih (inr p) = let r = ih p.0 p.1 in rw p.2 ((k.0, r.0), omega arith)
-
 -- by how much the steps of a word can still be raised
 abbrev pub slack : List ℕ → ℕ
 slack [] = 0
 slack (s ∷ w) = 15 - s + slack w
 
 -- every move leaves less of it
-pub climbed_less : (c d : List ℕ) → Memᴰ d (climbed c) → slack d < slack c
+climbed_less : (c d : List ℕ) → Memᴰ d (climbed c) → slack d < slack c
 unfolding climbed
 climbed_less [] d m = absurd (Memᴰ.not-nil m)
 climbed_less (s ∷ c) d m = go (λ v i. climbed_less c v i) (onto_cases s (climbed c) d m)
@@ -143,17 +133,9 @@ climbed_less (s ∷ c) d m = go (λ v i. climbed_less c v i) (onto_cases s (clim
     go ih (inl p) = rw p.1 (omega arith)
     go ih (inr p) = rw p.2 (omega (arith, ih p.0 p.1))
 
--- how far the search can still go from where it stands
-abbrev pub to_go : List (List ℕ) → ℕ
-to_go [] = 0
-to_go (c ∷ cs) = suc (slack c)
-
-pub climbed_go : (c : List ℕ) → to_go (climbed c) < suc (slack c)
-climbed_go c = go (climbed c) (λ d m. climbed_less c d m)
-  where
-    go : (ds : List (List ℕ)) → ((d : List ℕ) → Memᴰ d ds → slack d < slack c) → to_go ds < suc (slack c)
-    go [] h = omega arith
-    go (d ∷ ds) h = omega (arith, h d (Memᴰ.head refl))
+-- so there is less of it in the word that c moves to
+pub moved_less : (c d : List ℕ) → d ∷ [] ≡ climbed c → slack d < slack c
+moved_less c d to = climbed_less c d (rw (← to) (Memᴰ.head refl))
 
 -- the first extension of a word is the very next word
 pub extend_after : (w : List ℕ) (l : List (List ℕ)) → past w l ≡ from_on (w ++ (0 ∷ [])) l
@@ -170,8 +152,8 @@ module _ (count : List ℕ → ℕ) (fall : Falling count) (q n : ℕ) where
       none : (x : List ℕ) → q ≤ count x → extends c x ≡ false
       none x h = test (extends c x) (λ t. let r = extends_is c x t in absurd (low (omega (arith, fall c r.0, rw r.1 at h)))) (λ f. f)
 
-  -- a word as long as the list allows has no extension in it
-  pub climb_after : (w : List ℕ) → length w ≡ n → past w (list_of count q n) ≡ from_there (climbed w) (list_of count q n)
+  -- a word at least as long as the list allows has no extension in it
+  pub climb_after : (w : List ℕ) → n ≤ length w → past w (list_of count q n) ≡ from_there (climbed w) (list_of count q n)
   climb_after w e = past_from w (climbed w) (list_of count q n) (λ x m. let h = shared x m in rw (climb_means w x h.word) (after_short w x (omega arith)))
 
   -- a word that reaches the quorum is the first from itself on

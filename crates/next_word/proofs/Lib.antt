@@ -1,3 +1,4 @@
 pub mod FromOn
 pub mod Climb
 pub mod WordMoves
+pub mod Searching

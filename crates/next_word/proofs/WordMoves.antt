@@ -1,56 +1,67 @@
--- A word by value moves by its last step: its steps are those before the last one, and the last one. A word of as many steps as the list allows is
--- followed there by where it climbs to. Assumes nothing.
+-- A word moves by its last step: it is its steps before the last one, and the last one. Assumes nothing.
 use Prim.Native.Nat.{ℕ, zero, suc, ◌+◌, ◌-◌, ◌≤◌, ◌<◌}
 use native.Mathlib.Numerals.{add-one}
 use native.Mathlib.Omega.{arith}
-use mathlib.Core.Path.{◌≡◌, sym, ap, ◌∙◌}
+use mathlib.Core.Path.{◌≡◌, refl, sym, ap, ◌∙◌}
 use mathlib.Core.List.{List, [], ◌∷◌, ◌++◌}
-use lib.ListN.{length, take, get_or, set}
-use lib.Seq.{length-take-le, take-suc, take-suc-set}
-use Rattle.words.specs.Listing.{list_of, past, Falling}
+use lib.ListN.{length, take, drop, get_or, length-drop}
+use lib.Seq.{take-suc, take-length, length-take-le}
+use lib.Dec.{leb}
+use borrow.Author.Tests.{leb-true}
+use Rattle.std.specs.Prelude.{Some, None}
+use Rattle.std.specs.List.{slice_get, slice_index}
+use Rattle.std.proofs.lemmas.Option.{slice_get_within, slice_get-get_or, get_or_from_slice_get}
+use mathlib.Core.Bool.{true}
+use Rattle.records.specs.WordRecord.{word_form, word_of}
+use Rattle.records.proofs.StepBytes.{form_steps}
+use Rattle.records.proofs.Tests.{both}
 use Rattle.words.specs.Words.{IsWord}
-use Rattle.next_word.specs.Moving.{steps_in, moved}
-use Rattle.next_word.specs.Next.{climbed, from_there}
-use Rattle.next_word.specs.declared.word.Moved.{Moved}
-use Rattle.next_word.specs.declared.word.Word.{Word}
-use Rattle.words.proofs.Members.{steps_snoc, snoc_steps}
-use Rattle.next_word.proofs.Climb.{climbed_raise, climbed_shorten, climb_after}
+use Rattle.words.proofs.Members.{snoc_steps}
+use Rattle.next_word.specs.Next.{climbed}
+use Rattle.next_word.proofs.Climb.{climbed_raise, climbed_shorten}
 
--- a store at the last step
-pub last_set : (l : List ℕ) (n s : ℕ) → 0 < n → n ≤ length l → take n (set l (n - 1) s) ≡ take (n - 1) l ++ (s ∷ [])
-last_set l zero s h k = absurd (omega arith)
-last_set l (suc n) s h k = let e : suc n - 1 ≡ n = omega arith in rw e (take-suc-set l n s (omega arith))
+-- the first steps of a word are a word
+pub take_word : (n : ℕ) (w : List ℕ) → IsWord w → IsWord (take n w)
+take_word zero w k = tt
+take_word (suc n) [] k = tt
+take_word (suc n) (s ∷ w) k = (k.0, take_word n w k.1)
 
-last_step : (l : List ℕ) (n : ℕ) → 0 < n → n ≤ length l → take n l ≡ take (n - 1) l ++ (get_or l (n - 1) 0 ∷ [])
-last_step l zero h k = absurd (omega arith)
-last_step l (suc n) h k = let e : suc n - 1 ≡ n = omega arith in rw e (take-suc l n 0 (omega arith))
+-- and so are they with one more step behind them
+pub step_behind : (n : ℕ) (w : List ℕ) (s : ℕ) → IsWord w → s < 16 → IsWord (take n w ++ (s ∷ []))
+step_behind n w s k h = snoc_steps (take n w) s (take_word n w k) h
 
-module _ (w : Word) where
-  -- the steps before the last one
-  abbrev front : List ℕ
-  front = take (w.len - 1) w.steps
+module _ (w : List ℕ) where
+  abbrev n : ℕ
+  n = length w - 1
 
-  abbrev last : ℕ
-  last = get_or w.steps (w.len - 1) 0
+  module _ (s : ℕ) (some : Some s ≡ slice_get w n) where
+    last_step : w ≡ take n w ++ (s ∷ [])
+    last_step =
+        let h = slice_get_within w n s (sym some) in
+        let e : suc n ≡ length w = omega arith in
+        sym (take-length w) ∙ ap (λ (k : ℕ). take k w) (sym e) ∙ take-suc w n 0 h ∙ ap (λ (x : ℕ). take n w ++ (x ∷ [])) (get_or_from_slice_get w n s 0 (sym some))
 
-  module _ (some : 0 < w.len) (within : w.len ≤ length w.steps) where
     -- a word whose last step can be raised climbs by that
-    pub raised : last < 15 → climbed (steps_in w) ≡ (front ++ ((last + 1) ∷ [])) ∷ []
-    raised h = ap climbed (last_step w.steps w.len some within) ∙ rw add-one (climbed_raise front last h)
+    pub raised : s < 15 → climbed w ≡ (take n w ++ ((slice_index w n + 1) ∷ [])) ∷ []
+    raised h = ap climbed last_step ∙ rw (get_or_from_slice_get w n s 0 (sym some), add-one) (climbed_raise (take n w) s h)
 
     -- another as the word without that step
-    pub shortened : 15 ≤ last → climbed (steps_in w) ≡ climbed front
-    shortened h = ap climbed (last_step w.steps w.len some within) ∙ climbed_shorten front last h
+    pub shortened : 15 ≤ s → climbed w ≡ climbed (take n w)
+    shortened h = ap climbed last_step ∙ climbed_shorten (take n w) s h
 
-    pub front_word : IsWord (steps_in w) → IsWord front
-    front_word k = (steps_snoc front last (rw (last_step w.steps w.len some within) at k)).0
+-- and one with no last step nowhere
+pub nowhere : (w : List ℕ) → None ≡ slice_get w (length w - 1) → climbed w ≡ []
+unfolding climbed
+nowhere [] e = refl
+nowhere (s ∷ w) e =
+    let n : length (s ∷ w) - 1 ≡ length w = omega arith in
+    let h = slice_get-get_or (s ∷ w) (length w) 0 (omega arith) in
+    let k = rw n at e in
+    cc
 
-    pub raised_word : IsWord (steps_in w) → last < 15 → IsWord (front ++ ((last + 1) ∷ []))
-    raised_word k h = snoc_steps front (last + 1) (front_word k) (omega arith)
-
--- after a word of n steps the list goes on from where it climbs to
-pub climbed_past : (count : List ℕ → ℕ) → Falling count → (q n : ℕ) (w : Word) (m : Moved) → w.len ≡ n → n ≤ length w.steps → moved m ≡ climbed (steps_in w)
-    → past (steps_in w) (list_of count q n) ≡ from_there (moved m) (list_of count q n)
-climbed_past count fall q n w m e h k =
-    climb_after count fall q n (steps_in w) (length-take-le w.len w.steps (omega arith) ∙ e)
-    ∙ ap (λ (ds : List (List ℕ)). from_there ds (list_of count q n)) (sym k)
+-- a word record of right form says its word's length, at most 15, and its steps are codes
+pub record_word : (r : List ℕ) → length r ≡ 16 → word_form r ≡ true → (get_or r 0 0 ≤ 15) × (length (word_of r) ≡ get_or r 0 0) × IsWord (word_of r)
+record_word r l t =
+    let f = form_steps 15 15 r l (omega arith) t in
+    let h = leb-true (get_or r 0 0) 15 (both (leb (get_or r 0 0) 15) _ t).0 in
+    (h, length-take-le (get_or r 0 0) (drop 1 r) (omega (arith, length-drop 1 r)), f.2)

@@ -1,2 +1,2 @@
 pub mod Next
-pub mod Moving
+pub mod Searching

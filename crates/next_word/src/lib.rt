@@ -4,5 +4,5 @@
 mod search;
 mod word;
 
-pub use search::{first_from, next_word};
-pub use word::{Moved, Word};
+pub use search::Search;
+pub use word::Word;

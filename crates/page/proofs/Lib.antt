@@ -1,4 +1,2 @@
-pub mod RecordBytes
-pub mod PasteLoop
 pub mod Ends
 pub mod Paging

@@ -22,7 +22,7 @@ use Rattle.books.proofs.LiveRowsCases.{live_few}
 use Rattle.books.proofs.OpenJournalsCases.{open_few}
 use Rattle.books.proofs.Refusals.{pass, neither, told_most}
 use Rattle.list.specs.ListCall.{Asked, Wrote, wrong_output, list_refusals, due, fitting, wrote, list_call}
-use Rattle.list.specs.declared.Listed.{Listed}
+use Rattle.list.specs.ListCall.{Listed}
 
 -- a record is at most 1,000, a byte below 64, and number and book are at most 2
 abbrev pub Small : Checked → Type 0

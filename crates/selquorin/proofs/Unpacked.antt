@@ -17,7 +17,7 @@ use Rattle.books.proofs.JournalCountCases.{journal_few}
 use Rattle.books.proofs.Refusals.{first_each}
 use Rattle.books.proofs.TableCountCases.{table_few}
 use Rattle.list.specs.ListCall.{Asked, list_refusals, list_call}
-use Rattle.list.specs.declared.Listed.{Listed}
+use Rattle.list.specs.ListCall.{Listed}
 use Rattle.selquorin.specs.PackedList.{packed_list}
 use Rattle.packing.specs.Packed.{flagged, packed_count, packed_check, packed_journals, packed_rows}
 use Rattle.packing.proofs.Flags.{flag_small}

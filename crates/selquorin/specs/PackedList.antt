@@ -1,6 +1,6 @@
 -- What the list answers, packed into one number. Assumes nothing.
 use Rattle.std.specs.Prelude.{ℕ}
-use Rattle.list.specs.declared.Listed.{Listed}
+use Rattle.list.specs.ListCall.{Listed}
 use Rattle.packing.specs.Packed.{packed_page}
 
 abbrev pub packed_list : Listed → ℕ

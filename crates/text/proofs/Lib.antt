@@ -1,4 +1,3 @@
 pub mod Decimals
 pub mod Spaced
-pub mod Longer
 pub mod OneOutcome

@@ -1,5 +1,4 @@
--- No second line fits what a function promises: the promise is an equation for the whole line, the bytes behind its text
--- with it. Assumes nothing.
+-- No second line fits what a function promises: the promise is an equation for the whole line, which is its text. Assumes nothing.
 use Prim.Native.Nat.{ℕ}
 use mathlib.Core.Path.{◌≡◌, sym, ◌∙◌}
 use mathlib.Core.Bool.{cond}
@@ -7,12 +6,11 @@ use mathlib.Core.List.{List, []}
 use lib.ListN.{length}
 use lib.Dec.{leb}
 use Rattle.text.specs.declared.Line.{Line}
-use Rattle.text.specs.Lines.{line_of}
 use Rattle.text.specs.Text.{first_line, word_line, last_line, refused_entry_line, refused_ask_line}
 
--- two lines that hold the text, zeros behind it, are equal
+-- two lines that hold the text are equal
 abbrev pub OneLine : List ℕ → Type 0
-OneLine t = (l m : Line) → l ≡ line_of t → m ≡ line_of t → l ≡ m
+OneLine t = (l m : Line) → l ≡ t → m ≡ t → l ≡ m
 
 -- of every text
 one_line : (t : List ℕ) → OneLine t

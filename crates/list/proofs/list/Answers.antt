@@ -1,37 +1,39 @@
 -- `list::list` meets its contract: the number is decided first; then the first word that is due is sought, and the page from it on is the page of what
 -- is due, since that is an end of the list by the table count, which on sound books is the list of the journals. Assumes nothing.
-use Rattle.next_word.specs.Moving.{moved}
+use mathlib.Core.Path.{refl}
+use Rattle.std.proofs.lemmas.Result.{err_from_is_err_and}
+use Rattle.books.proofs.RefusalNumbers.{refusal_told}
 use Rattle.list.specs.ListCall.{asked}
-use Rattle.list.proofs.ListCases.{list_allowed, list_wrong, list_done, due_first}
+use Rattle.list.proofs.ListCases.{list_allowed, list_wrong, list_done, due_first, due_after}
 use Rattle.list.proofs.TableOf.{table_falls}
 use Rattle.list.proofs.list.Goals as goal
 
-pub returns-then-number-ne-DONE : goal.returns-then-number-ne-DONE
-returns-then-number-ne-DONE c =
+pub returns-in_err-decide : goal.returns-in_err-decide
+returns-in_err-decide c =
     let a = c.args in
     let g = asked a.journals.now a.rows.now a.quorum a.limit a.after a.word_record.now a.out.now in
-    list_wrong g _ c.decide-number.ensures c.if-number-ne-DONE.true
+    let p = err_from_is_err_and c.from_residual.result c.from_residual.ensures.1 in
+    rw (p.1, p.2) (list_wrong g _ c.in_err-decide.ensures (refusal_told _))
 
-pub first_due-first-requires : goal.first_due-first-requires
-first_due-first-requires c =
+pub invariant_of-search : goal.invariant_of-search
+invariant_of-search c =
     let a = c.args in
     let g = asked a.journals.now a.rows.now a.quorum a.limit a.after a.word_record.now a.out.now in
-    let m = list_allowed g _ c.decide-number.ensures c.if-number-ne-DONE.false in
-    (m.limit, table_falls g.journals g.rows m.right, m.word)
+    let m = list_allowed g _ c.in_ok-decide.ensures refl in
+    record { short = m.limit; falls = table_falls g.journals g.rows m.right }
 
-pub write_page-page-requires : goal.write_page-page-requires
-write_page-page-requires c =
+pub write_page-requires-clause-first : goal.write_page-requires-clause-first
+write_page-requires-clause-first c =
     let a = c.args in
     let g = asked a.journals.now a.rows.now a.quorum a.limit a.after a.word_record.now a.out.now in
-    let m = list_allowed g _ c.decide-number.ensures c.if-number-ne-DONE.false in
     let f = c.first_due-first in
-    (m.limit, f.ensures.fit, table_falls g.journals g.rows m.right, due_first g (moved f.result) f.ensures.to)
+    due_first g _ (due_after g c.word_after.ensures f.ensures.to)
 
 pub returns : goal.returns
 returns c =
     let a = c.args in
     let g = asked a.journals.now a.rows.now a.quorum a.limit a.after a.word_record.now a.out.now in
     let f = c.first_due-first in
-    let p = c.write_page-page in
-    list_done g _ c.decide-number.ensures c.if-number-ne-DONE.false (moved f.result) f.ensures.to
+    let p = c.write_page in
+    list_done g _ c.in_ok-decide.ensures refl _ (due_after g c.word_after.ensures f.ensures.to)
     p.result.written p.result.more _ p.ensures.count p.ensures.more p.ensures.out_after

@@ -1,35 +1,32 @@
-use Prim.Native.Nat.{ℕ}
-use mathlib.Core.Path.{◌≡◌, refl, ap, ◌∙◌}
-use mathlib.Core.List.{List, ◌++◌}
-use lib.ListN.{length, drop}
-use Rattle.load.specs.Page.{page_lines}
-use Rattle.load.proofs.PageLines.{line_put}
+use Prim.Native.Nat.{ℕ, ◌*◌, ◌/◌}
+use mathlib.Core.Path.{◌≡◌, ◌∙◌}
+use mathlib.Core.List.{[], ◌++◌}
+use lib.ListN.{length, take, drop, get_or, length-take}
 use borrow.Author.Rules.{rules}
 use native.Mathlib.Omega.{arith}
+use Rattle.std.specs.Simd.{first_chunks}
+use Rattle.records.specs.WordRecord.{word_of}
+use Rattle.next_word.specs.Next.{table_of}
+use Rattle.load.specs.Page.{page_lines}
+use Rattle.load.specs.Program.{line_by}
+use Rattle.load.proofs.PageLines.{lines_more, record_at}
 use Rattle.load.proofs.list_page.page_text.Goals as goal
 
-pub loop-i-init : goal.loop-i-init
+pub loop-word_record-init : goal.loop-word_record-init
 unfolding page_lines
-loop-i-init c = (omega arith, omega arith, refl, refl, refl)
+loop-word_record-init c = (grind arith, c.new-text.ensures)
 
-pub loop-i-preserved : goal.loop-i-preserved
-loop-i-preserved c =
+pub loop-word_record-preserved : goal.loop-word_record-preserved
+loop-word_record-preserved c =
     let a = c.args in
-    let l = c.loop-i in
-    let line = c.record_line in
-    let put = c.put_line-end in
-    let p =
-    line_put a.rows.now a.page.now a.text.now l.text l.i l.end l.invariant.3 l.invariant.4 c.sixteen_at-word_record.result c.sixteen_at-word_record.ensures line.result line.ensures.value put.result put.ensures.end _ put.ensures.bytes in
-    (omega arith, omega (arith, put.ensures.end, line.ensures.fits, l.invariant.1), search rules, p.0, p.1)
-
-pub returns : goal.returns
-returns c =
-    let a = c.args in
-    let l = c.loop-i in
-    let e : l.i ≡ a.written = omega arith in
-    let lines : ℕ → List ℕ = λ n. page_lines a.rows.now n a.page.now in
-    record {
-      end = l.invariant.3 ∙ ap (λ (n : ℕ). length (lines n)) e;
-      room = omega (arith, l.invariant.1);
-      lines = l.invariant.4 ∙ ap (λ (n : ℕ). lines n ++ drop l.end a.text.now) e;
-    }
+    let l = c.loop-word_record in
+    let page = a.page.now in
+    let i = l.word_record-index in
+    let size : length page ≡ 16384 = search rules in
+    let n : ℕ = length page / 16 in
+    let cut : get_or (take a.written (first_chunks 16 n page)) i [] ≡ take 16 (drop (16 * i) page) =
+    record_at 16 n a.written i page (omega (arith, size)) (omega (arith, length-take a.written c.as_chunks.result.0.now)) in
+    let line : c.as_bytes.result.now ≡ line_by (table_of a.rows.now) (word_of (take 16 (drop (16 * i) page))) =
+    c.as_bytes.ensures.value ∙ rw (c.as_chunks.ensures.front, cut) at c.record_line-line.ensures.value in
+    let put : c.try_extend_from_slice-fits.new.self.items ≡ l.text.items ++ c.as_bytes.result.now = search rules in
+    (search rules, rw (lines_more a.rows.now i page, put, line, l.invariant.1))

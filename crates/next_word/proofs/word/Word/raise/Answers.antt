@@ -1,13 +1,16 @@
--- `next_word::word::Word::raise` meets its contract: the store changes the last step that is taken alone. Assumes nothing.
+-- `next_word::word::Word::raise` meets its contract: what is left without the last step is a word, and the raised step is a code. Assumes nothing.
+use Prim.Native.Nat.{ℕ, ◌-◌}
 use native.Mathlib.Omega.{arith}
-use mathlib.Core.Path.{◌≡◌, refl}
-use lib.ListN.{length}
-use borrow.Author.Rules.{rules}
-use Rattle.next_word.proofs.WordMoves.{last_set}
+use mathlib.Core.Path.{sym}
+use lib.ListN.{length, length-append, length-take}
+use Rattle.std.proofs.lemmas.Option.{get_or_from_slice_get}
+use Rattle.next_word.proofs.WordMoves.{step_behind}
 use Rattle.next_word.proofs.word.Word.raise.Goals as goal
 
-pub returns : goal.returns
-returns c =
-    let w = c.args.self in
-    let size : length w.steps ≡ 15 = search rules in
-    (refl, last_set w.steps w.len _ (omega arith) (omega arith))
+pub invariant_of-self : goal.invariant_of-self
+invariant_of-self c =
+    let w = c.self.inside.steps.items in
+    let n = length w - 1 in
+    let e = get_or_from_slice_get w n c.in-Some.last 0 (sym c.in-Some.ensures.value) in
+    let h = rw (← c.self.view_is) at c.requires.1 in
+    rw (c.push.ensures.items, c.pop.ensures.rest) (omega (arith, length-append {A = ℕ}, length-take n w), step_behind n w _ c.self.invariant.1 (omega arith))
