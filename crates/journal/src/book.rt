@@ -52,7 +52,7 @@ impl<'a> JournalBook<'a> {
         ensures { result.now ≡ get_or (journals_of self.now.bytes.now) i [] }
     {
         let record = &records(self.bytes)[i];
-        let end = 2 + record[1] as usize;
+        let end = 2 + usize::from(record[1]);
         &record[2..end]
     }
 

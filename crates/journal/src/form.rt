@@ -14,7 +14,7 @@ pub fn steps_form(b: &[u8], most: usize) -> bool
     requires { most < length b.now }
     ensures { result ≡ steps_form most b.now }
 {
-    let n = b[0] as usize;
+    let n = usize::from(b[0]);
     n <= most && all_below(&b[1..1 + n], STEP_CODES) && all_below(&b[1 + n..], 1)
 }
 

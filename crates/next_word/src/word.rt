@@ -49,7 +49,7 @@ impl Word {
         requires { (length word_record.now ≡ word_record_size) × (word_form word_record.now ≡ true) }
         ensures { result ≡ word_of word_record.now }
     {
-        let n = word_record[0] as usize;
+        let n = usize::from(word_record[0]);
         let mut steps = ArrayVec::new();
         steps.try_extend_from_slice(&word_record[1..=n]).unwrap();
         Word { steps }

@@ -44,7 +44,7 @@ fn next_entry(steps: &[u8], x: usize, further: u8) -> u8
 {
     let p = x / STEPS;
     if p < steps.len() {
-        if steps[p] as usize == x % STEPS {
+        if usize::from(steps[p]) == x % STEPS {
             return (p + 1) as u8;
         }
         return further;

@@ -17,11 +17,11 @@ impl Nexts {
         requires { (i < most_journals) × (s < step_codes) }
         ensures { result ≡ next_at self.now.entries i p s }
     {
-        let at = p as usize;
+        let at = usize::from(p);
         if LONGEST_JOURNAL < at {
             return LOST;
         }
-        self.entries[NEXTS * i + (STEPS * at + s as usize)]
+        self.entries[NEXTS * i + (STEPS * at + usize::from(s))]
     }
 
     // The places that the step s leads to, as a new array; 0 for a journal that isn't open.

@@ -19,4 +19,4 @@ slice_bounds-result-end c =
     search rules
 
 pub returns : goal.returns
-returns c = rw c.records.ensures (journal_at c.args.self.now.bytes.now c.args.self.now.form c.args.i c.requires)
+returns c = rw (c.from-end.ensures, c.records.ensures) (journal_at c.args.self.now.bytes.now c.args.self.now.form c.args.i c.requires)
