@@ -4,9 +4,8 @@
 ghost use Rattle.std.specs.Prelude.{◌≡◌, ◌/◌, ◌≤◌, length, take, ltb, option_to_list, IfSome};
 ghost use Rattle.records.specs.Sizes.{word_record_size};
 ghost use Rattle.records.specs.WordRecord.{word_record};
+ghost use Rattle.page.specs.WordsFrom.{words_from};
 ghost use Rattle.page.specs.Written.{written};
-ghost use Rattle.next_word.specs.Next.{from_there};
-ghost use Rattle.next_word.specs.Searching.{words_of};
 
 use next_word::{Search, Word};
 use records::WORD_RECORD;
@@ -34,10 +33,10 @@ fn write_record(out: &mut [u8], w: &Word)
 // Writes the words of the list from the first one on, as many as fit or as remain.
 pub fn write_page(search: &Search, first: Option<Word>, out: &mut [u8]) -> Page
     requires short { IfSome first (λ w. length w ≤ search.now.limit) }
-    requires first { option_to_list first ≡ take 1 (from_there (option_to_list first) (words_of search.now)) }
-    ensures count { result.written ≡ length (take (length out.old / word_record_size) (from_there (option_to_list first) (words_of search.now))) }
-    ensures more { result.more ≡ ltb result.written (length (from_there (option_to_list first) (words_of search.now))) }
-    ensures out_after { out.new ≡ written (take (length out.old / word_record_size) (from_there (option_to_list first) (words_of search.now))) out.old }
+    requires first { option_to_list first ≡ take 1 (words_from search.now first) }
+    ensures count { result.written ≡ length (take (length out.old / word_record_size) (words_from search.now first)) }
+    ensures more { result.more ≡ ltb result.written (length (words_from search.now first)) }
+    ensures out_after { out.new ≡ written (take (length out.old / word_record_size) (words_from search.now first)) out.old }
 {
     let mut at = first;
     let room = out.len() / WORD_RECORD;

@@ -2,12 +2,11 @@
 -- word at hand is the next one, if there is one (`PageAt`), and no longer than the list allows. Assumes nothing.
 use Prim.Native.Nat.{◌≤◌}
 use lib.ListN.{length}
-use Rattle.std.specs.Prelude.{option_to_list, IfSome}
-use Rattle.next_word.specs.Searching.{words_of}
-use Rattle.next_word.specs.Next.{from_there}
+use Rattle.std.specs.Prelude.{IfSome}
+use Rattle.page.specs.WordsFrom.{words_from}
 use Rattle.page.proofs.Paging.{PageAt}
 use Rattle.page.proofs.write_page.Given as goal
 
 abbrev pub invariant-loop-i : goal.invariant-loop-i
 invariant-loop-i l =
-    PageAt (from_there (option_to_list l.initial.at) (words_of l.search)) l.initial.out l.out l.at l.i × IfSome l.at (λ w. length w ≤ l.search.limit)
+    PageAt (words_from l.search l.initial.at) l.initial.out l.out l.at l.i × IfSome l.at (λ w. length w ≤ l.search.limit)
