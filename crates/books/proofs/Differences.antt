@@ -32,15 +32,16 @@ same_not (x ∷ a) (y ∷ b) h = test (eqb x y) (λ t. rw t (same_not a b (less 
     less : {m n : ℕ} → suc m < suc n → m < n
     less k = omega arith
 
--- what the check says, by the spot that the walk came to
-module _ (a b : List ℕ) (row byte : ℕ) (e : differ a b ≡ 64 * row + byte) (h : byte < 64) (l : length a ≡ 64000) where
-  pub compared_differs : row < 1000 → compared a b ≡ checked 2 2 row byte
+-- what the check says, by where the walk found a difference
+module _ (a b : List ℕ) where
+  pub compared_differs : {row byte : ℕ} → length a ≡ 64000 → differ a b ≡ 64 * row + byte → row < 1000 → byte < 64
+      → compared a b ≡ checked 2 2 row byte
   unfolding compared
-  compared_differs r =
+  compared_differs {row} {byte} l e r h =
       let x : differ a b / 64 ≡ row = omega arith in
       let y : differ a b % 64 ≡ byte = omega arith in
       rw (same_not a b (omega arith)) (ap₂ (λ (p q : ℕ). checked 2 2 p q) x y)
 
-  pub compared_same : length b ≡ 64000 → 1000 ≤ row → compared a b ≡ checked 0 0 0 0
+  pub compared_same : length a ≡ 64000 → length b ≡ 64000 → differ a b ≡ 64000 → compared a b ≡ checked 0 0 0 0
   unfolding compared
-  compared_same m r = rw (same_end a b (omega arith) (omega arith))
+  compared_same l m e = rw (same_end a b (omega arith) (omega arith))

@@ -9,14 +9,15 @@ ghost use Rattle.books.specs.Answers.{checked_in, live_rows_in};
 ghost use Rattle.books.specs.Check.{check_call};
 ghost use Rattle.books.specs.LiveRows.{live_rows_call};
 
+pub use seen::Sound;
+
 use books::{Fault, Refused};
-use seen::see;
 
 // Checks both books: whether they are sound, and if not, where the first fault is.
 pub fn check(journals: &[u8], rows: &[u8]) -> Result<(), Fault>
     ensures { checked_in result ≡ check_call journals.now rows.now }
 {
-    see(journals, rows)?;
+    Sound::read(journals, rows)?;
     Ok(())
 }
 
@@ -25,6 +26,6 @@ pub fn check(journals: &[u8], rows: &[u8]) -> Result<(), Fault>
 pub fn live_rows(journals: &[u8], rows: &[u8]) -> Result<usize, Refused>
     ensures { live_rows_in result ≡ live_rows_call journals.now rows.now }
 {
-    let found = see(journals, rows)?;
-    Ok(found)
+    let sound = Sound::read(journals, rows)?;
+    Ok(sound.live)
 }

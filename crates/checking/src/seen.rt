@@ -1,57 +1,57 @@
-// What is seen of both books in one look: where they are wrong, or how many live rows they have.
+// What is seen of both books in one look: where they are wrong, or the journal book and how many live rows there are.
 
-ghost use Rattle.std.specs.Prelude.{◌≡◌, length, true, IfOk};
+ghost use Rattle.std.specs.Prelude.{◌≡◌, length, IfOk};
 ghost use Rattle.words.specs.Picture.{picture};
-ghost use Rattle.records.specs.Sizes.{row_book_size};
-ghost use Rattle.records.specs.JournalBook.{journal_form, journals_of};
+ghost use Rattle.records.specs.JournalBook.{journals_of};
 ghost use Rattle.books.specs.Answers.{checked_in};
-ghost use Rattle.books.specs.Check.{compared, check_rows, check_call};
+ghost use Rattle.books.specs.Check.{check_rows, check_call};
 
 use crate::size::right_sizes;
 use books::Fault;
+use journal::JournalBook;
 use records::{ROW_BOOK, ROWS};
-use words::JOURNALS;
+use rows::first_difference;
 
-// What the check says of a row book beside the picture.
-fn compare_rows(rows: &[u8], picture: &[u8]) -> Result<(), Fault>
-    requires { (length rows.now ≡ row_book_size) × (length picture.now ≡ row_book_size) }
-    ensures { checked_in result ≡ compared rows.now picture.now }
+// What is seen of a row book beside its journals: the picture is drawn once, for both answers.
+#[tactic(auto, using(picture::proofs::Drawn::found_many, picture::proofs::Drawn::found_few, books::proofs::CheckCases::rows_many))]
+fn see_rows(journals: &JournalBook<'_>, rows: &[u8; ROW_BOOK]) -> Result<usize, Fault>
+    ensures says { checked_in result ≡ check_rows (journals_of journals.now.bytes.now) rows.now }
+    ensures live { IfOk result (λ live. live ≡ length (picture (journals_of journals.now.bytes.now))) }
 {
-    let spot = rows::first_difference(rows, picture);
-    if spot.row < ROWS {
-        return Err(Fault::Row(spot.row, spot.byte));
-    }
-    Ok(())
-}
-
-// What is seen of a row book whose journals have their form: the picture is drawn once, for both answers.
-#[tactic(auto, using(picture::proofs::Drawn::found_many, picture::proofs::Drawn::found_few, picture::proofs::Drawn::drawn_few, picture::proofs::Drawn::says_few, books::proofs::CheckCases::rows_many, books::proofs::CheckCases::rows_compared))]
-fn see_rows(journals: &[u8], rows: &[u8]) -> Result<usize, Fault>
-    requires { (journal_form journals.now ≡ true) × (length rows.now ≡ row_book_size) }
-    ensures says { checked_in result ≡ check_rows (journals_of journals.now) rows.now }
-    ensures found { IfOk result (λ found. found ≡ length (picture (journals_of journals.now))) }
-{
-    let mut drawn = [0u8; ROW_BOOK];
-    let found = picture::draw(journals, &mut drawn);
-    if ROWS < found {
+    let mut drawn = [0; ROW_BOOK];
+    let Some(live) = picture::draw(journals, &mut drawn) else {
         return Err(Fault::Row(ROWS, 0));
+    };
+    match first_difference(rows, &drawn) {
+        Some(spot) => Err(Fault::Row(spot.row, spot.byte)),
+        None => Ok(live),
     }
-    compare_rows(rows, &drawn)?;
-    Ok(found)
 }
 
-// What is seen of both books.
-#[tactic(auto, using(books::proofs::BookSizes::both_sized, books::proofs::JournalCountCases::form_by, books::proofs::JournalCountCases::form_not, books::proofs::CheckCases::check_size, books::proofs::CheckCases::check_book_one, books::proofs::CheckCases::check_formed))]
-pub(crate) fn see(journals: &[u8], rows: &[u8]) -> Result<usize, Fault>
-    ensures says { checked_in result ≡ check_call journals.now rows.now }
-    ensures found { IfOk result (λ found. found ≡ length (picture (journals_of journals.now))) }
-{
-    if !right_sizes(journals, rows) {
-        return Err(Fault::WrongSizes);
+// Books that were found sound: the journal book, and how many live rows they have.
+#[derive(Clone, Copy)]
+pub struct Sound<'a> {
+    pub journals: JournalBook<'a>,
+    pub live: usize,
+    pub ghost counted: { live ≡ length (picture (journals_of journals.bytes.now)) },
+}
+
+impl<'a> Sound<'a> {
+    // What is seen of both books.
+    #[tactic(auto, using(books::proofs::CheckCases::check_size, books::proofs::CheckCases::check_book_one, books::proofs::CheckCases::check_formed))]
+    pub fn read(journals: &'a [u8], rows: &[u8]) -> Result<Sound<'a>, Fault>
+        ensures says { checked_in result ≡ check_call journals.now rows.now }
+        ensures book { IfOk result (λ sound. sound.journals.bytes.now ≡ journals.now) }
+    {
+        let Ok((journals, rows)) = right_sizes(journals, rows) else {
+            return Err(Fault::WrongSizes);
+        };
+        match JournalBook::read(journals) {
+            Ok(journals) => {
+                let live = see_rows(&journals, rows)?;
+                Ok(Sound { journals, live })
+            }
+            Err(wrong) => Err(Fault::Journal(wrong)),
+        }
     }
-    let wrong = journal::first_wrong_record(journals);
-    if wrong != JOURNALS {
-        return Err(Fault::Journal(wrong));
-    }
-    see_rows(journals, rows)
 }

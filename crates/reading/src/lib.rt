@@ -1,26 +1,18 @@
 // The calls that read one book alone. Each call's promise is one equation with a definition of `books`, and holds for every input.
 #![tactic(auto)]
 
-ghost use Rattle.std.specs.Prelude.{◌≡◌, ◌≢◌, [], length, MatchResult};
-ghost use Rattle.books.specs.declared.refused.Refused.TheVariants.{WrongSize};
+ghost use Rattle.std.specs.Prelude.{◌≡◌, [], MatchResult};
 ghost use Rattle.books.specs.Answers.{number_in, counted_in, open_journals_in};
 ghost use Rattle.books.specs.TableCount.{table_count_call};
 ghost use Rattle.books.specs.JournalCount.{journal_count_call};
 ghost use Rattle.books.specs.RowRecord.{row_record_call, row_record_number_call};
 ghost use Rattle.books.specs.OpenJournals.{open_journals_call};
 
-use books::Refused;
+use books::{Refused, sized};
 use journal::JournalBook;
 use records::{LONGEST_WORD, ROW_BOOK, ROW_RECORD, ROWS, WORD_RECORD};
 use rows::{Damaged, count_at, walk_to};
 use words::STEP_CODES;
-
-// Bytes of the size that is asked for.
-fn sized<const N: usize>(bytes: &[u8]) -> Result<&[u8; N], Refused>
-    ensures { MatchResult result (λ b. (length bytes.now ≡ N) × (b.now ≡ bytes.now)) (λ e. (length bytes.now ≢ N) × (e ≡ WrongSize)) }
-{
-    bytes.try_into().or(Err(Refused::WrongSize))
-}
 
 // Counts a word by the row book alone: walks from row 0 along the word's steps, and answers the last row's count.
 #[tactic(auto, using(books::proofs::TableCountCases::count_size, books::proofs::TableCountCases::count_step, books::proofs::TableCountCases::count_row, books::proofs::TableCountCases::count_none, books::proofs::TableCountCases::count_damage, rows::proofs::Arcs::walk_row))]

@@ -12,12 +12,11 @@ ghost use Rattle.books.specs.Open.{open_call};
 ghost use Rattle.books.specs.Append.{append_call};
 ghost use Rattle.books.specs.Rebuild.{rebuild_call};
 
-use appending::append_at;
-use books::Refused;
+use appending::appended;
+use books::{Refused, sized};
 use checking::size::right_sizes;
-use opening::decide_open;
-use records::JOURNAL_BOOK;
-use words::JOURNALS;
+use journal::JournalBook;
+use opening::opened;
 use write::{write_books, write_rows};
 
 // Clears both books: every byte of them becomes zero.
@@ -25,9 +24,7 @@ use write::{write_books, write_rows};
 pub fn clear(journals: &mut [u8], rows: &mut [u8]) -> Result<(), Refused>
     ensures { after (number_in result) journals.new rows.new ≡ clear_call journals.old rows.old }
 {
-    if !right_sizes(journals, rows) {
-        return Err(Refused::WrongSize);
-    }
+    right_sizes(journals, rows)?;
     journals.fill(0);
     rows.fill(0);
     Ok(())
@@ -37,23 +34,16 @@ pub fn clear(journals: &mut [u8], rows: &mut [u8]) -> Result<(), Refused>
 pub fn open(journals: &mut [u8], rows: &mut [u8]) -> Result<(), Refused>
     ensures { after (number_in result) journals.new rows.new ≡ open_call journals.old rows.old }
 {
-    decide_open(journals, rows)?;
-    let mut wider = [0u8; JOURNAL_BOOK];
-    journal::with_journal(journals, &mut wider);
-    write_books(&wider, journals, rows)
+    let wider = opened(journals, rows)?;
+    write_books(&JournalBook { bytes: &wider }, journals, rows)
 }
 
 // Appends a step to the journal opened last.
-#[tactic(auto, using(books::proofs::AppendCases::append_size, books::proofs::AppendCases::append_last))]
 pub fn append(journals: &mut [u8], rows: &mut [u8], step: u8) -> Result<(), Refused>
     ensures { after (number_in result) journals.new rows.new ≡ append_call journals.old rows.old step }
 {
-    if !right_sizes(journals, rows) {
-        return Err(Refused::WrongSize);
-    }
-    // Only a book of its size can be asked for its last journal.
-    let last = journal::last_journal(journals);
-    append_at(journals, rows, last, step)
+    let longer = appended(journals, rows, step)?;
+    write_books(&JournalBook { bytes: &longer }, journals, rows)
 }
 
 // Draws the row book anew from the journal book alone, whatever the row book held.
@@ -61,12 +51,11 @@ pub fn append(journals: &mut [u8], rows: &mut [u8], step: u8) -> Result<(), Refu
 pub fn rebuild(journals: &[u8], rows: &mut [u8]) -> Result<(), Refused>
     ensures { after (number_in result) journals.now rows.new ≡ rebuild_call journals.now rows.old }
 {
-    if !right_sizes(journals, rows) {
+    let Some(rows) = rows.as_mut_array() else {
         return Err(Refused::WrongSize);
-    }
-    let wrong = journal::first_wrong_record(journals);
-    if wrong != JOURNALS {
+    };
+    let Ok(book) = JournalBook::read(sized(journals)?) else {
         return Err(Refused::Damaged);
-    }
-    write_rows(journals, rows)
+    };
+    write_rows(&book, rows)
 }

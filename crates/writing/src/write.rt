@@ -1,9 +1,8 @@
 // Writing the row book alone, and both books, which no other file does but for clearing them.
 
-ghost use Rattle.std.specs.Prelude.{◌≡◌, true, [], ◌∷◌, length};
-ghost use Rattle.records.specs.JournalBook.{journal_form, journals_of};
+ghost use Rattle.std.specs.Prelude.{◌≡◌, true, [], ◌∷◌};
+ghost use Rattle.records.specs.JournalBook.{journals_of};
 ghost use Rattle.records.specs.RowBook.{row_book};
-ghost use Rattle.records.specs.Sizes.{row_book_size};
 ghost use Rattle.records.specs.Sound.{right_sizes};
 ghost use Rattle.books.specs.Answers.{number_in};
 ghost use Rattle.books.specs.Numbers.{first, unless};
@@ -11,28 +10,31 @@ ghost use Rattle.books.specs.Clear.{after};
 ghost use Rattle.books.specs.Write.{rows_refusal, write_call};
 
 use books::Refused;
-use records::ROWS;
+use journal::JournalBook;
+use records::ROW_BOOK;
 
 // Writes the picture of a journal book into a row book, or leaves that where the picture doesn't fit.
 #[tactic(auto, using(picture::proofs::Drawn::found_many, picture::proofs::Drawn::found_few, picture::proofs::Drawn::drawn_few, picture::proofs::Drawn::drawn_many, books::proofs::WriteCases::rows_full_is, books::proofs::WriteCases::rows_fit))]
-pub(crate) fn write_rows(journals: &[u8], rows: &mut [u8]) -> Result<(), Refused>
-    requires { (journal_form journals.now ≡ true) × (length rows.old ≡ row_book_size) }
-    ensures number { number_in result ≡ first (rows_refusal (journals_of journals.now) ∷ []) }
-    ensures rows_after { rows.new ≡ unless (number_in result) (row_book (journals_of journals.now)) rows.old }
+pub(crate) fn write_rows(journals: &JournalBook<'_>, rows: &mut [u8; ROW_BOOK]) -> Result<(), Refused>
+    ensures number { number_in result ≡ first (rows_refusal (journals_of journals.now.bytes.now) ∷ []) }
+    ensures rows_after { rows.new ≡ unless (number_in result) (row_book (journals_of journals.now.bytes.now)) rows.old }
 {
-    if ROWS < picture::draw(journals, rows) {
-        return Err(Refused::RowsFull);
+    match picture::draw(journals, rows) {
+        Some(_) => Ok(()),
+        None => Err(Refused::RowsFull),
     }
-    Ok(())
 }
 
 // Writes a new journal book and its picture, or leaves both books where the picture doesn't fit.
-#[tactic(auto, using(journal::proofs::Journals::form_size, books::proofs::BookSizes::both_sized, books::proofs::Refusals::refused, books::proofs::RefusalNumbers::refusal_told, books::proofs::WriteCases::write_refused))]
-pub(crate) fn write_books(made: &[u8], journals: &mut [u8], rows: &mut [u8]) -> Result<(), Refused>
-    requires { (journal_form made.now ≡ true) × (right_sizes journals.old rows.old ≡ true) }
-    ensures { after (number_in result) journals.new rows.new ≡ write_call (journals_of made.now) journals.old rows.old }
+#[tactic(auto, using(books::proofs::BookSizes::both_sized, books::proofs::Refusals::refused, books::proofs::RefusalNumbers::refusal_told, books::proofs::WriteCases::write_refused))]
+pub(crate) fn write_books(made: &JournalBook<'_>, journals: &mut [u8], rows: &mut [u8]) -> Result<(), Refused>
+    requires { right_sizes journals.old rows.old ≡ true }
+    ensures { after (number_in result) journals.new rows.new ≡ write_call (journals_of made.now.bytes.now) journals.old rows.old }
 {
+    let Some(rows) = rows.as_mut_array() else {
+        unreachable!()
+    };
     write_rows(made, rows)?;
-    journals.copy_from_slice(made);
+    journals.copy_from_slice(made.bytes);
     Ok(())
 }
