@@ -15,7 +15,7 @@ use rows::{Damaged, count_at, walk_to};
 use words::STEP_CODES;
 
 // Counts a word by the row book alone: walks from row 0 along the word's steps, and answers the last row's count.
-#[tactic(auto, using(books::proofs::TableCountCases::count_size, books::proofs::TableCountCases::count_step, books::proofs::TableCountCases::count_row, books::proofs::TableCountCases::count_none, books::proofs::TableCountCases::count_damage, rows::proofs::Arcs::walk_row))]
+#[tactic(auto, using(books::proofs::TableCountCases::count_size, books::proofs::TableCountCases::count_step, books::proofs::TableCountCases::count_row, books::proofs::TableCountCases::count_none, books::proofs::TableCountCases::count_damage))]
 pub fn table_count(rows: &[u8], word: &[u8]) -> Result<u8, Refused>
     ensures { counted_in result ≡ table_count_call rows.now word.now }
 {
