@@ -10,8 +10,8 @@ use rows::Row;
 use states::Nexts;
 use words::STEP_CODES;
 
-#[tactic(auto, unfolding(crate::specs::KeyRow::key_arc))]
 // The arc of a key under step s: the row number of the state that it leads to, and 0 if that isn't live.
+#[tactic(auto, unfolding(crate::specs::KeyRow::key_arc))]
 fn arc_of(nexts: &Nexts, keys: &Keys, key: Key, s: u8) -> u16
     requires { s < step_codes }
     ensures { result ≡ key_arc nexts.now keys.now key s }

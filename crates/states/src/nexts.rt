@@ -35,8 +35,8 @@ fn further_on(entries: &[u8], x: usize) -> u8
     LOST
 }
 
-#[tactic(auto, unfolding(crate::specs::Nexts::next_entry))]
 // Entry x of a journal, from the entry one place further on.
+#[tactic(auto, unfolding(crate::specs::Nexts::next_entry))]
 fn next_entry(steps: &[u8], x: usize, further: u8) -> u8
     requires { length steps.now ≤ longest_journal }
     ensures { result ≡ next_entry steps.now x further }

@@ -11,8 +11,8 @@ use keys::Key;
 use words::{JOURNALS, LONGEST_JOURNAL, LOST};
 
 impl Nexts {
-    #[tactic(auto, unfolding(crate::specs::Stepped::next_at))]
     // The place that the step s leads to from the place p in journal i.
+    #[tactic(auto, unfolding(crate::specs::Stepped::next_at))]
     fn next_at(&self, i: usize, p: u8, s: u8) -> u8
         requires { (i < most_journals) × (s < step_codes) }
         ensures { result ≡ next_at self.now.entries i p s }
