@@ -1,29 +1,15 @@
--- The language's comparisons of keys: `<` is the order of states, and a lookup that is compared with a key says whether the key stands there.
--- Assumes nothing.
+-- A lookup that is compared with a key says whether the key stands there. Assumes nothing.
 use Prim.Native.Nat.{ℕ, ◌≤◌, ◌<◌}
 use native.Mathlib.Omega.{arith}
 use mathlib.Core.Path.{◌≡◌, refl, sym, ap, ◌∙◌}
 use mathlib.Core.Bool.{Bool, true, false, not, true≢false}
-use mathlib.Core.List.{List, [], ◌∷◌}
-use lib.Dec.{ltb, eqb}
+use mathlib.Core.List.{List, []}
+use lib.Dec.{eqb}
 use lib.ListN.{length, get_or}
-use borrow.Author.Tests.{ltb-true, ltb-false, eq-eqb, ne_eqb}
-use Rattle.std.specs.Ordering.{is_lt, is_some_and, nat_cmp}
-use Rattle.std.specs.Cmp.Lexicographic.{slice_partial_cmp, pointwise, bytes_decides}
+use Rattle.std.specs.Cmp.Lexicographic.{pointwise, bytes_decides}
 use Rattle.std.specs.List.{HoldsAt}
 use Rattle.std.specs.Option.{MatchOption, option_eq}
 use Rattle.std.proofs.Common.{Option, Some, None, Bor}
-use Rattle.words.specs.Order.{before}
-use Rattle.words.proofs.Test.{test}
-
-pub lt_before : (a b : List ℕ) → is_some_and is_lt (slice_partial_cmp (λ (x y : ℕ). Some (nat_cmp x y)) a b) ≡ before a b
-lt_before [] [] = refl
-lt_before [] (y ∷ b) = refl
-lt_before (x ∷ a) [] = refl
-lt_before (x ∷ a) (y ∷ b) =
-    test (ltb x y) (λ t. rw t)
-    (λ f. test (ltb y x) (λ u. rw (f, u, ne_eqb x y (λ e. absurd (omega (arith, ltb-true y x u)))))
-    (λ g. rw (f, g, eq-eqb x y (omega (arith, ltb-false x y f, ltb-false y x g))) (lt_before a b)))
 
 not_false : (b : Bool) → not b ≡ false → b ≡ true
 not_false true e = refl

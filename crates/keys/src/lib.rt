@@ -3,6 +3,7 @@
 
 ghost use Rattle.std.specs.Prelude.{◌≡◌, ◌+◌, ◌≤◌, ◌<◌, [], length, slice_index_or};
 ghost use Rattle.records.specs.Sizes.{most_rows};
+ghost use Rattle.words.specs.Order.{before};
 ghost use Rattle.words.specs.Picture.{insert};
 ghost use Rattle.keys.specs.Keys.{AreKeys, rank_of};
 
@@ -16,6 +17,19 @@ pub type Key = [u8; JOURNALS];
 
 // How many keys there is room for: one more than there are rows.
 const ROOM: usize = ROWS + 1;
+
+// Whether the first of two keys comes before the second.
+// Kept: tried with the language's own `<` of arrays, with which drawing a picture takes 1.6 times as long.
+fn comes_before(a: &Key, b: &Key) -> bool
+    ensures { result ≡ before a.now b.now }
+{
+    for i in 0..JOURNALS {
+        if a[i] != b[i] {
+            return a[i] < b[i];
+        }
+    }
+    false
+}
 
 // At most one key more than there are rows, in their order.
 #[derive(Drop)]
@@ -65,7 +79,9 @@ impl Keys {
         ensures place { result ≡ rank_of key self.now }
         ensures fits { result ≤ most_rows + 1 }
     {
-        self.held.as_slice().partition_point(|held| *held < key)
+        self.held
+            .as_slice()
+            .partition_point(|held| comes_before(held, &key))
     }
 
     // Puts a key among the others, in order, unless it is there.

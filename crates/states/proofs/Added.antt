@@ -1,12 +1,11 @@
 -- A key put among keys if it is live: the two cases, and that on the keys of states it is the state put among the states. Assumes nothing.
-use Prim.Native.Nat.{ℕ, suc, ◌≤◌}
+use Prim.Native.Nat.{ℕ, ◌≤◌}
 use native.Mathlib.Omega.{arith}
 use mathlib.Core.Path.{◌≡◌, refl, ap₂}
 use mathlib.Core.Bool.{true, false}
 use mathlib.Core.List.Memᴰ
 use mathlib.Core.List.{List, [], ◌∷◌, map}
 use lib.ListN.{length, take}
-use Rattle.words.specs.Order.{before}
 use Rattle.words.specs.Places.{live}
 use Rattle.words.specs.Picture.{insert, keep}
 use Rattle.words.proofs.Sweep.{length_insert}
@@ -25,16 +24,7 @@ module _ (k : ℕ) (to key : List ℕ) (keys : List (List ℕ)) (e : to ≡ key)
   unfolding with_key
   stays_out f = rw (← e, f)
 
--- an insertion adds at most one
-insert_most : (q : List ℕ) (l : List (List ℕ)) → length (insert q l) ≤ suc (length l)
-insert_most q [] = omega arith
-insert_most q (a ∷ l) =
-    test (before q a) (λ t. rw t (omega arith)) (λ f. test (before a q) (λ t. rw (f, t) (omega (arith, insert_most q l))) (λ g. rw (f, g) (omega arith)))
-
--- a state kept if it is live adds at most one, and takes none away
-pub keep_most : (q : List ℕ) (l : List (List ℕ)) → length (keep q l) ≤ suc (length l)
-keep_most q l = test (live q) (λ t. rw t (insert_most q l)) (λ f. rw f (omega arith))
-
+-- a state kept if it is live takes none away
 pub keep_least : (q : List ℕ) (l : List (List ℕ)) → length l ≤ length (keep q l)
 keep_least q l = test (live q) (λ t. rw t (length_insert q l)) (λ f. rw f (omega arith))
 

@@ -28,7 +28,7 @@ fn add_step(nexts: &Nexts, keys: &mut Keys, key: Key, s: u8)
     }
 }
 
-// Puts in all live states that lead on from row i, or none of them fits any more.
+// Puts in all live states that row i leads to; `None` if there are more than there are rows then.
 fn grow_row(nexts: &Nexts, keys: &mut Keys, i: usize) -> Option<()>
     requires { (i < length keys.old) × (length keys.old ≤ most_rows) × AnyTabled nexts.now (λ js. Sweeping js i 0 keys.old) }
     ensures few { IsSome result → length keys.new ≤ most_rows }

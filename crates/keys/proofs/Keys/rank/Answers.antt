@@ -4,7 +4,6 @@ use Prim.Native.Nat.{ℕ}
 use Rattle.std.proofs.Common.{rules}
 use Rattle.std.proofs.lemmas.List.Sorted.{IsPartitionPoint-from_clause}
 use Rattle.words.specs.Order.{before}
-use Rattle.keys.proofs.Compared.{lt_before}
 use Rattle.keys.proofs.Ranks.{parted, rank_is}
 use Rattle.keys.proofs.Keys.rank.Goals as goal
 
@@ -14,5 +13,5 @@ returns-clause-place c =
     let keys = c.self.inside.held.items in
     let found = c.partition_point in
     let point = IsPartitionPoint-from_clause (λ (x : List ℕ). before x key) _ _ found.ensures.partitioned
-    (rw c.as_slice.ensures.value (parted key keys c.self.invariant.ascending)) (λ a r q k. search (rules, lt_before)) in
+    (rw c.as_slice.ensures.value (parted key keys c.self.invariant.ascending)) (λ a r q k. search rules) in
     rw (← c.self.view_is) (rank_is key keys found.result (rw c.as_slice.ensures.value at found.ensures.bound) (rw c.as_slice.ensures.value at point))
