@@ -9,9 +9,8 @@ ghost use Rattle.books.specs.Answers.{checked_in, live_rows_in};
 ghost use Rattle.books.specs.Check.{check_call};
 ghost use Rattle.books.specs.LiveRows.{live_rows_call};
 
-pub use seen::Sound;
-
 use books::{Fault, Refused};
+pub use seen::Sound;
 
 // Checks both books: whether they are sound, and if not, where the first fault is.
 pub fn check(journals: &[u8], rows: &[u8]) -> Result<(), Fault>

@@ -8,7 +8,10 @@ use records::{JOURNAL_BOOK, ROW_BOOK};
 
 // Both books as arrays, if they have their sizes.
 #[tactic(auto, using(books::proofs::BookSizes::sizes_right, books::proofs::BookSizes::journals_wrong, books::proofs::BookSizes::rows_wrong))]
-pub fn right_sizes<'a, 'b>(journals: &'a [u8], rows: &'b [u8]) -> Result<(&'a [u8; JOURNAL_BOOK], &'b [u8; ROW_BOOK]), Refused>
+pub fn right_sizes<'a, 'b>(
+    journals: &'a [u8],
+    rows: &'b [u8],
+) -> Result<(&'a [u8; JOURNAL_BOOK], &'b [u8; ROW_BOOK]), Refused>
     ensures { MatchResult result (λ books. (right_sizes journals.now rows.now ≡ true) × (books.0.now ≡ journals.now) × (books.1.now ≡ rows.now)) (λ e. (right_sizes journals.now rows.now ≡ false) × (e ≡ WrongSize)) }
 {
     Ok((sized(journals)?, sized(rows)?))

@@ -14,7 +14,11 @@ use words::{LONGEST_JOURNAL, STEP_CODES};
 
 // The journal book with the step, or what appending is refused with before the live states after it are counted.
 #[tactic(auto, using(books::proofs::AppendCases::append_seen, books::proofs::AppendCases::append_step, books::proofs::AppendCases::append_none, books::proofs::AppendCases::append_long, books::proofs::AppendCases::append_free))]
-pub(crate) fn appended(journals: &[u8], rows: &[u8], step: u8) -> Result<[u8; JOURNAL_BOOK], Refused>
+pub(crate) fn appended(
+    journals: &[u8],
+    rows: &[u8],
+    step: u8,
+) -> Result<[u8; JOURNAL_BOOK], Refused>
     ensures number { number_in result ≡ first (early_refusals journals.now rows.now (last_of (journals_of journals.now)) step) }
     ensures book { IfOk result (λ book. book ≡ journal_book (appended_at (last_of (journals_of journals.now)) step (journals_of journals.now))) }
 {

@@ -47,14 +47,15 @@ pub fn append(journals: &mut [u8], rows: &mut [u8], step: u8) -> Result<(), Refu
 }
 
 // Draws the row book anew from the journal book alone, whatever the row book held.
-#[tactic(auto, using(books::proofs::BookSizes::both_sized, books::proofs::JournalCountCases::form_by, books::proofs::JournalCountCases::form_not, books::proofs::RebuildCases::rebuild_size, books::proofs::RebuildCases::rebuild_formless, books::proofs::RebuildCases::rebuild_drawn))]
+#[tactic(auto, using(books::proofs::BookSizes::sizes_right, books::proofs::BookSizes::journals_wrong, books::proofs::BookSizes::rows_wrong, books::proofs::RebuildCases::rebuild_size, books::proofs::RebuildCases::rebuild_formless, books::proofs::RebuildCases::rebuild_drawn))]
 pub fn rebuild(journals: &[u8], rows: &mut [u8]) -> Result<(), Refused>
     ensures { after (number_in result) journals.now rows.new ≡ rebuild_call journals.now rows.old }
 {
+    let journals = sized(journals)?;
     let Some(rows) = rows.as_mut_array() else {
         return Err(Refused::WrongSize);
     };
-    let Ok(book) = JournalBook::read(sized(journals)?) else {
+    let Ok(book) = JournalBook::read(journals) else {
         return Err(Refused::Damaged);
     };
     write_rows(&book, rows)

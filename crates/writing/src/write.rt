@@ -15,7 +15,10 @@ use records::ROW_BOOK;
 
 // Writes the picture of a journal book into a row book, or leaves that where the picture doesn't fit.
 #[tactic(auto, using(picture::proofs::Drawn::found_many, picture::proofs::Drawn::found_few, picture::proofs::Drawn::drawn_few, picture::proofs::Drawn::drawn_many, books::proofs::WriteCases::rows_full_is, books::proofs::WriteCases::rows_fit))]
-pub(crate) fn write_rows(journals: &JournalBook<'_>, rows: &mut [u8; ROW_BOOK]) -> Result<(), Refused>
+pub(crate) fn write_rows(
+    journals: &JournalBook<'_>,
+    rows: &mut [u8; ROW_BOOK],
+) -> Result<(), Refused>
     ensures number { number_in result ≡ first (rows_refusal (journals_of journals.now.bytes.now) ∷ []) }
     ensures rows_after { rows.new ≡ unless (number_in result) (row_book (journals_of journals.now.bytes.now)) rows.old }
 {
@@ -26,8 +29,12 @@ pub(crate) fn write_rows(journals: &JournalBook<'_>, rows: &mut [u8; ROW_BOOK]) 
 }
 
 // Writes a new journal book and its picture, or leaves both books where the picture doesn't fit.
-#[tactic(auto, using(books::proofs::BookSizes::both_sized, books::proofs::Refusals::refused, books::proofs::RefusalNumbers::refusal_told, books::proofs::WriteCases::write_refused))]
-pub(crate) fn write_books(made: &JournalBook<'_>, journals: &mut [u8], rows: &mut [u8]) -> Result<(), Refused>
+#[tactic(auto, using(books::proofs::BookSizes::both_sized))]
+pub(crate) fn write_books(
+    made: &JournalBook<'_>,
+    journals: &mut [u8],
+    rows: &mut [u8],
+) -> Result<(), Refused>
     requires { right_sizes journals.old rows.old ≡ true }
     ensures { after (number_in result) journals.new rows.new ≡ write_call (journals_of made.now.bytes.now) journals.old rows.old }
 {
@@ -35,6 +42,7 @@ pub(crate) fn write_books(made: &JournalBook<'_>, journals: &mut [u8], rows: &mu
         unreachable!()
     };
     write_rows(made, rows)?;
-    journals.copy_from_slice(made.bytes);
+    let bytes = made.bytes;
+    journals.copy_from_slice(bytes);
     Ok(())
 }
