@@ -28,9 +28,8 @@ use Rattle.books.specs.Check.{Checked}
 use Rattle.books.specs.TableCount.{Counted}
 use Rattle.books.specs.LiveRows.{LiveRows}
 use Rattle.books.specs.OpenJournals.{OpenJournals}
-use Rattle.ask.specs.Ask.{ask_call}
+use Rattle.ask.specs.Ask.{Answer, ask_call}
 use Rattle.feed.specs.Entry.{AfterFeeding, enter, entry_call, feed_from, feed_call}
-use Rattle.ask.specs.declared.Ask.{Ask}
 use Rattle.demands.proofs.Demand2.{demand_2}
 use Rattle.demands.proofs.WorkedBooks.{spoilt, worked_books, rebuild_worked}
 
@@ -138,5 +137,5 @@ ask_done : (ask_call 1 []).number ≡ 0
 unfolding ask_call
 ask_done = refl
 
-pub ask_refuses_always : (o : Ask) → (o.number ≡ 0 → ⊥) → o ≡ ask_call 1 [] → ⊥
-ask_refuses_always = refuses (λ (o : Ask). o.number) (ask_call 1 []) ask_done
+pub ask_refuses_always : (o : Answer) → (o.number ≡ 0 → ⊥) → o ≡ ask_call 1 [] → ⊥
+ask_refuses_always = refuses (λ (o : Answer). o.number) (ask_call 1 []) ask_done

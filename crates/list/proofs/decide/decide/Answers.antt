@@ -1,7 +1,7 @@
 -- `list::decide::decide` meets its contract: each return is one case of the list call's numbers. The word record's size and the output's are tested
 -- before the books, since any of them gives the first number. Assumes nothing.
 use native.Mathlib.Omega.{arith}
-use mathlib.Core.Path.{◌≡◌, sym, ap, ◌∙◌}
+use mathlib.Core.Path.{◌≡◌, sym, ◌∙◌}
 use mathlib.Core.Bool.{false}
 use lib.ListN.{length}
 use borrow.Author.Tests.{eq-eqb, ne_eqb}
