@@ -79,11 +79,10 @@ def places(all_texts):
                 add("1 enums of our own", path, line, head)
             if kind == "struct" and re.search(r"\b(number: u8|found: bool|whole: bool|read: io::Result|end: usize|says: |more: bool)", body):
                 add("1 structs of a number or a flag with a value beside it", path, line, head)
-            if kind == "fn" and re.search(r"-> (u8|io::Result<bool>|bool)\b", head) and re.search(r"number that|numbers? (it|the)|answers? whether|: u8$|-> u8 \{?$", above + head, re.I) and not head.startswith("pub fn selquorin") and "extern" not in head:
-                if re.search(r"-> u8", head) and not re.search(r"number|refus|append|open|clear|rebuild|write|enter|decide|code", head + above, re.I):
-                    pass
-                else:
-                    add("1 functions that answer a refusal's number, a code, or whether something was done", path, line, head)
+            if kind == "fn" and re.search(r"-> u8\b", head) and "/selquorin" not in path:
+                add("1 functions that answer a u8 (a refusal's number, a code, a byte or a count), but for those for C", path, line, head)
+            if kind == "fn" and re.search(r"-> io::Result<bool>|-> bool\b", head):
+                add("1 functions that answer a bool (whether something is so, or was done)", path, line, head)
             if kind == "fn" and re.search(r"[0-9],[0-9]{3} if|, or (the )?(16|length|0)\b|or 16|; the text's length|if none does|where none is|nowhere there", above):
                 add("1 functions with a number that stands for none", path, line, head)
             if kind == "struct" and re.search(r"\blen: usize", body):
