@@ -1,7 +1,7 @@
 // The whole journal book, once its form is known: how many journals it has, which is the last, the steps of one of them, and in
 // how many of them a word is.
 
-ghost use Rattle.std.specs.Prelude.{◌≡◌, true, false, [], ◌<◌, length, get_or, MatchResult};
+ghost use Rattle.std.specs.Prelude.{◌≡◌, true, false, [], ◌<◌, length, get_or, MatchOption, MatchResult};
 ghost use Rattle.words.specs.Words.{count};
 ghost use Rattle.words.specs.Journals.{last_of};
 ghost use Rattle.records.specs.JournalBook.{journal_form, first_wrong_record, journals_of};
@@ -39,11 +39,11 @@ impl<'a> JournalBook<'a> {
             .unwrap_or(JOURNALS)
     }
 
-    // The number of the journal opened last, and 0 where there is none.
-    pub fn last_journal(&self) -> usize
-        ensures { result ≡ last_of (journals_of self.now.bytes.now) }
+    // The number of the journal opened last, if there is one.
+    pub fn last_journal(&self) -> Option<usize>
+        ensures { MatchOption result (length (journals_of self.now.bytes.now) ≡ 0) (λ i. (i ≡ last_of (journals_of self.now.bytes.now)) × (i < length (journals_of self.now.bytes.now))) }
     {
-        self.open_count().saturating_sub(1)
+        self.open_count().checked_sub(1)
     }
 
     // The steps of journal i, as a part of the book.

@@ -26,10 +26,9 @@ pub(crate) fn appended(
     if STEP_CODES <= step {
         return Err(Refused::WrongStep);
     }
-    let last = book.last_journal();
-    if book.open_count() <= last {
+    let Some(last) = book.last_journal() else {
         return Err(Refused::NoJournal);
-    }
+    };
     if LONGEST_JOURNAL <= book.journal_at(last).len() {
         return Err(Refused::JournalFull);
     }
