@@ -6,7 +6,6 @@ pub mod OneOutcome
 pub mod NegatedTests
 pub mod BookSizes
 pub mod ClearCases
-pub mod RowRecordCases
 pub mod TableCountCases
 pub mod JournalCountCases
 pub mod Differences

@@ -12,6 +12,8 @@ ghost use Rattle.books.specs.LiveRows.{live_rows_call};
 use books::{Fault, Refused};
 pub use seen::Sound;
 
+// Kept: the two books stay two parameters, since each exported call lends them as two slices (`selquorin_c`) and each contract names both.
+
 // Checks both books: whether they are sound, and if not, where the first fault is.
 pub fn check(journals: &[u8], rows: &[u8]) -> Result<(), Fault>
     ensures { checked_in result ≡ check_call journals.now rows.now }

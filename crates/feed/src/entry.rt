@@ -9,6 +9,8 @@ use books::Refused;
 use entries::{Entry, LoneByte, entry_of};
 use records::{JOURNAL_BOOK, ROW_BOOK};
 
+// Kept: the two books stay two parameters, since each exported call lends them as two slices (`selquorin_c`) and each contract names both.
+
 // Opens the next journal and, where that is done, appends to it.
 #[tactic(auto, unfolding(crate::specs::Entry::open_append))]
 fn open_append(journals: &mut [u8], rows: &mut [u8], step: u8) -> Result<(), Refused>

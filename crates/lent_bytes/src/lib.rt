@@ -1,62 +1,12 @@
-// Lent bytes: filled with zeros or with other bytes, tested, and sixteen of them read into an array or written from one.
+// Lent bytes: tested against a limit.
 #![tactic(auto)]
 
-ghost use Rattle.std.specs.Prelude.{◌≡◌, ◌+◌, ◌≤◌, length, take, drop, replicate};
-ghost use Rattle.std.proofs.Math.Seq.{paste};
+ghost use Rattle.std.specs.Prelude.{◌≡◌};
 ghost use Rattle.records.specs.Bytes.{all_below};
-
-// Makes every byte zero.
-pub fn zero_all(bytes: &mut [u8])
-    ensures { bytes.new ≡ replicate (length bytes.old) 0 }
-{
-    let mut i = 0;
-    while i < bytes.len() {
-        bytes[i] = 0;
-        i += 1;
-    }
-}
-
-// Makes the bytes those of a source of the same length.
-pub fn copy_all(source: &[u8], bytes: &mut [u8])
-    requires { length source.now ≡ length bytes.old }
-    ensures { bytes.new ≡ source.now }
-{
-    let mut i = 0;
-    while i < source.len() {
-        bytes[i] = source[i];
-        i += 1;
-    }
-}
 
 // Whether each byte is below a limit.
 pub fn all_below(b: &[u8], limit: u8) -> bool
     ensures { result ≡ all_below limit b.now }
 {
     b.iter().all(|&x| x < limit)
-}
-
-// The sixteen bytes from a byte on.
-pub fn sixteen_at(b: &[u8], at: usize) -> [u8; 16]
-    requires { at + 16 ≤ length b.now }
-    ensures { result ≡ take 16 (drop at b.now) }
-{
-    let mut found = [0u8; 16];
-    let mut i = 0;
-    while i < 16 {
-        found[i] = b[at + i];
-        i += 1;
-    }
-    found
-}
-
-// Writes sixteen bytes from a byte on.
-pub fn put_sixteen(b: &mut [u8], at: usize, source: [u8; 16])
-    requires { at + 16 ≤ length b.old }
-    ensures { b.new ≡ paste b.old at source 16 }
-{
-    let mut i = 0;
-    while i < 16 {
-        b[at + i] = source[i];
-        i += 1;
-    }
 }

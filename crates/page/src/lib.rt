@@ -11,6 +11,7 @@ use next_word::{Search, Word};
 use records::WORD_RECORD;
 
 // How many words were written, and whether a further one remains.
+// Kept: a flag beside a number, since neither says when the other counts: both are said of every page (`list_call`).
 #[derive(Clone, Copy)]
 pub struct Page {
     pub written: usize,

@@ -1,18 +1,13 @@
 -- The arcs of a key by step. Assumes nothing.
 use Prim.Native.Nat.{ℕ, ◌<◌}
-use mathlib.Core.Path.{◌≡◌, refl, sym}
+use mathlib.Core.Path.{◌≡◌, sym}
 use mathlib.Core.List.{List}
-use lib.ListN.{length, get_or}
+use lib.ListN.{get_or}
 use Rattle.words.proofs.Codes.{at_step}
 use Rattle.states.specs.declared.nexts.Nexts.{Nexts}
 use Rattle.picture.specs.KeyRow.{key_arc, key_arcs}
 
 module _ (nexts : Nexts) (keys : List (List ℕ)) (key : List ℕ) where
-  -- there is an arc for each step
-  pub length_arcs : length (key_arcs nexts keys key) ≡ 16
-  unfolding key_arcs
-  length_arcs = refl
-
   -- the arc under a step
   pub arc_at_is : (s : ℕ) → s < 16 → key_arc nexts keys key s ≡ get_or (key_arcs nexts keys key) s 0
   unfolding key_arcs

@@ -9,4 +9,3 @@ pub mod RowBytes
 pub mod Replaced
 pub mod Sound
 pub mod Writing
-pub mod Below

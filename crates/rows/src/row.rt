@@ -16,6 +16,9 @@ pub struct Row {
     pub count: u8,
 }
 
+// Kept: a row book and a row's number stay two parameters, and its number being below 1,000 a clause: the array has the size in its type
+// already, and a type for the number would be made anew of each arc.
+
 // A row's count byte.
 pub fn count_at(rows: &[u8; ROW_BOOK], r: usize) -> u8
     requires { r < most_rows }

@@ -15,6 +15,7 @@ pub(crate) const NEXTS: usize = (LONGEST_JOURNAL + 1) * STEPS;
 pub(crate) const ALL_NEXTS: usize = JOURNALS * NEXTS;
 
 // The entries of one place, one for each step.
+// Kept: `as`, since a constant can't call `usize::from`.
 pub(crate) const STEPS: usize = STEP_CODES as usize;
 
 // The entries of k journals, one after the other.

@@ -11,6 +11,7 @@ use keys::Key;
 use words::{JOURNALS, LONGEST_JOURNAL, LOST};
 
 impl Nexts {
+    // Kept: that s is a step code stays a clause here, in `rows` and in `picture`: a type for it would be made anew of each byte and each count from 0 to 15.
     // The place that the step s leads to from the place p in journal i.
     #[tactic(auto, unfolding(crate::specs::Stepped::next_at))]
     fn next_at(&self, i: usize, p: u8, s: u8) -> u8

@@ -19,6 +19,8 @@ use journal::JournalBook;
 use opening::opened;
 use write::{write_books, write_rows};
 
+// Kept: the two books stay two parameters, since each exported call lends them as two slices (`selquorin_c`) and each contract names both.
+
 // Clears both books: every byte of them becomes zero.
 #[tactic(auto, using(books::proofs::ClearCases::clear_size, books::proofs::ClearCases::clear_done), unfolding(books::specs::Clear::zeros))]
 pub fn clear(journals: &mut [u8], rows: &mut [u8]) -> Result<(), Refused>
