@@ -1,16 +1,13 @@
 -- What the check tells, as the numbers of a call that first checks the books: a fault's, or the call's others. Assumes nothing.
 use Prim.Native.Nat.{ℕ}
 use mathlib.Core.Path.{◌≡◌, sym, ap, ◌∙◌}
-use mathlib.Core.Bool.{true}
 use mathlib.Core.List.{List}
-use lib.ListN.{length}
-use Rattle.records.specs.JournalBook.{journal_form}
 use Rattle.books.specs.Numbers.{Refusal, first}
 use Rattle.books.specs.Check.{Checked, checked, check_call}
 use Rattle.books.specs.Answers.{number_of, fault_at, refused_by}
 use Rattle.books.specs.declared.fault.Fault.{Fault}
 use Rattle.books.proofs.RefusalNumbers.{refusal_told, refused_number}
-use Rattle.books.proofs.Checks.{checked_first, checked_sizes, seen_refused, seen_sound}
+use Rattle.books.proofs.Checks.{checked_first, seen_refused, seen_sound}
 
 module _ (jb rb : List ℕ) where
   -- a fault that the check tells: its refusal's number is the check's
@@ -23,12 +20,9 @@ module _ (jb rb : List ℕ) where
       let n = fault_number f e in
       n ∙ seen_refused jb rb rest (λ z. refusal_told (refused_by f) (n ∙ z))
 
-  -- no fault: the check's number is 0, the call's other numbers count, and both books have their sizes and book 1 its form
+  -- no fault: the check's number is 0, and the call's other numbers count
   pub none_number : checked 0 0 0 0 ≡ check_call jb rb → (check_call jb rb).number ≡ 0
   none_number e = ap (λ (k : Checked). k.number) (sym e)
 
   pub none_refused : (rest : List Refusal) → checked 0 0 0 0 ≡ check_call jb rb → first (checked_first jb rb rest) ≡ first rest
   none_refused rest e = seen_sound jb rb rest (none_number e)
-
-  pub none_sizes : checked 0 0 0 0 ≡ check_call jb rb → (length jb ≡ 4096) × (length rb ≡ 64000) × (journal_form jb ≡ true)
-  none_sizes e = checked_sizes jb rb (none_number e)

@@ -11,7 +11,7 @@ use Rattle.words.specs.Limits.{most_journals}
 use Rattle.words.specs.Words.{is_in, count}
 use Rattle.words.proofs.Test.{test}
 use Rattle.records.specs.Bytes.{all_below, all_zero}
-use Rattle.records.specs.JournalBook.{first_wrong_record, journal_form, journals_of}
+use Rattle.records.specs.JournalBook.{journal_form, journals_of}
 use Rattle.records.specs.StepBytes.{steps_of}
 use Rattle.records.specs.WordRecord.{word_form, word_of}
 use Rattle.records.proofs.Form.{form_book}
@@ -20,15 +20,6 @@ use Rattle.books.specs.Numbers.{first, done, wrong_size, wrong_word, damaged}
 use Rattle.books.specs.TableCount.{counted}
 use Rattle.books.specs.JournalCount.{journal_count_refusals, journal_count_call}
 use Rattle.books.proofs.Refusals.{pass, told_most}
-
--- the form by what the code asks
-pub form_by : (jb : List ℕ) → length jb ≡ 4096 → first_wrong_record jb ≡ 16 → journal_form jb ≡ true
-unfolding journal_form
-form_by jb l e = rw (eq-eqb (length jb) 4096 l, eq-eqb (first_wrong_record jb) 16 e)
-
-pub form_not : (jb : List ℕ) → length jb ≡ 4096 → (first_wrong_record jb ≡ 16 → ⊥) → journal_form jb ≡ false
-unfolding journal_form
-form_not jb l n = rw (eq-eqb (length jb) 4096 l, ne_eqb (first_wrong_record jb) 16 n)
 
 module _ (jb r : List ℕ) where
   pub journals_size : (length jb ≡ 4096 → ⊥) → journal_count_call jb r ≡ counted wrong_size 0
