@@ -1,20 +1,8 @@
-// Lent bytes: filled with zeros or with other bytes, tested, and sixteen of them read into an array or written from one.
+// Lent bytes: made those of others, tested, and sixteen of them read into an array.
 #![tactic(auto)]
 
-ghost use Rattle.std.specs.Prelude.{◌≡◌, ◌+◌, ◌≤◌, length, take, drop, replicate};
-ghost use Rattle.std.proofs.Math.Seq.{paste};
+ghost use Rattle.std.specs.Prelude.{◌≡◌, ◌+◌, ◌≤◌, length, take, drop};
 ghost use Rattle.records.specs.Bytes.{all_below};
-
-// Makes every byte zero.
-pub fn zero_all(bytes: &mut [u8])
-    ensures { bytes.new ≡ replicate (length bytes.old) 0 }
-{
-    let mut i = 0;
-    while i < bytes.len() {
-        bytes[i] = 0;
-        i += 1;
-    }
-}
 
 // Makes the bytes those of a source of the same length.
 pub fn copy_all(source: &[u8], bytes: &mut [u8])
@@ -47,16 +35,4 @@ pub fn sixteen_at(b: &[u8], at: usize) -> [u8; 16]
         i += 1;
     }
     found
-}
-
-// Writes sixteen bytes from a byte on.
-pub fn put_sixteen(b: &mut [u8], at: usize, source: [u8; 16])
-    requires { at + 16 ≤ length b.old }
-    ensures { b.new ≡ paste b.old at source 16 }
-{
-    let mut i = 0;
-    while i < 16 {
-        b[at + i] = source[i];
-        i += 1;
-    }
 }
