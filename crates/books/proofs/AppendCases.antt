@@ -119,6 +119,7 @@ module _ (jb rb : List ℕ) (i s : ℕ) where
       not_early h = h (sym (first_early (early_refusals jb rb i s) (rows_refusal longer ∷ []) h) ∙ e)
 
 module _ (jb rb : List ℕ) (s : ℕ) where
+  -- append is that at the last journal
   pub append_last : (i : ℕ) → i ≡ last_of (journals_of jb) → append_at_call jb rb i s ≡ append_call jb rb s
   unfolding append_call
   append_last i e = rw e

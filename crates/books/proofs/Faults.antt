@@ -20,7 +20,7 @@ module _ (jb rb : List ℕ) where
       let n = fault_number f e in
       n ∙ seen_refused jb rb rest (λ z. refusal_told (refused_by f) (n ∙ z))
 
-  -- no fault: the check's number is 0, the call's other numbers count, and both books have their sizes and book 1 its form
+  -- no fault: the check's number is 0, and the call's other numbers count
   pub none_number : checked 0 0 0 0 ≡ check_call jb rb → (check_call jb rb).number ≡ 0
   none_number e = ap (λ (k : Checked). k.number) (sym e)
 

@@ -3,7 +3,6 @@ pub mod Counts
 pub mod Refusals
 pub mod RefusalNumbers
 pub mod OneOutcome
-pub mod NegatedTests
 pub mod BookSizes
 pub mod ClearCases
 pub mod TableCountCases
