@@ -5,28 +5,24 @@ use native.Mathlib.Omega.{arith}
 use mathlib.Core.Path.{◌≡◌, subst, sym, ap}
 use mathlib.Core.Bool.{Bool, not, ◌||◌}
 use mathlib.Core.List.{List}
-use Rattle.std.specs.Prelude.{Result, Ok, Err, IfOk}
 use lib.ListN.{length, length-take}
 use lib.Dec.{eqb, ltb}
 use borrow.Author.Tests.{ltb-false}
+use Rattle.std.specs.Prelude.{Result, Ok, Err, IfOk}
 use Rattle.records.specs.Sizes.{most_rows}
 use Rattle.records.specs.Sound.{right_sizes}
 use Rattle.books.specs.Answers.{open_journals_in, live_rows_in}
 use Rattle.books.specs.Numbers.{first}
+use Rattle.books.specs.Check.{check_call, Verdict, wrong_sizes, book_one, too_many, book_two, all_right, Checked}
+use Rattle.books.specs.OpenJournals.{open_journals_call, OpenJournals}
+use Rattle.books.specs.LiveRows.{live_rows_call, LiveRows}
 use Rattle.books.specs.declared.refused.Refused.{Refused}
-use Rattle.books.specs.Check.{check_call, Verdict, wrong_sizes, book_one, too_many, book_two, all_right}
-use Rattle.books.specs.OpenJournals.{open_journals_call}
-use Rattle.books.specs.LiveRows.{live_rows_call}
-use Rattle.books.specs.Check.{Checked}
-use Rattle.books.specs.OpenJournals.{OpenJournals}
-use Rattle.books.specs.LiveRows.{LiveRows}
 use Rattle.books.proofs.BookSizes.{both_sized}
 use Rattle.books.proofs.Checks.{check_verdict}
 use Rattle.books.proofs.LiveRowsCases.{live_few}
 use Rattle.books.proofs.OpenJournalsCases.{open_few}
 use Rattle.books.proofs.Refusals.{pass, neither, told_most}
-use Rattle.list.specs.ListCall.{Asked, Wrote, wrong_output, list_refusals, due, fitting, wrote, list_call}
-use Rattle.list.specs.ListCall.{Listed}
+use Rattle.list.specs.ListCall.{Asked, Wrote, wrong_output, list_refusals, due, fitting, wrote, list_call, Listed}
 
 -- a record is at most 1,000, a byte below 64, and number and book are at most 2
 abbrev pub Small : Checked → Type 0
