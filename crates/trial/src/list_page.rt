@@ -3,7 +3,7 @@
 use crate::calls::Lent;
 use crate::command::Page;
 use crate::stop::Stop;
-use list::Listed;
+use books::{Refused, number_in};
 use records::WORD_RECORD;
 use script::digest::digest;
 use script::record::Words;
@@ -14,14 +14,21 @@ use std::io::Write;
 const FEW: usize = 8;
 
 // Prints what the list answers, the digest of what it was lent with the record behind, and the words that it wrote if they are
-// few and fit there.
-fn print_listed<W: Write>(out: &mut W, listed: Listed, room: &[u8]) -> io::Result<()> {
-    let written = listed.written;
+// few and fit there. A refusal says that none was written and none remains.
+fn print_listed<W: Write>(
+    out: &mut W,
+    listed: Result<page::Page, Refused>,
+    room: &[u8],
+) -> io::Result<()> {
+    let number = number_in(&listed);
+    let (written, more) = match listed {
+        Ok(page) => (page.written, page.more),
+        Err(_) => (0, false),
+    };
     write!(
         out,
-        " -> {}, written {written}, more {}, digest {}",
-        listed.number,
-        u8::from(listed.more),
+        " -> {number}, written {written}, more {}, digest {}",
+        u8::from(more),
         digest(room)
     )?;
     if written <= FEW

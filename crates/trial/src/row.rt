@@ -1,20 +1,19 @@
 // The row record call, and what is printed of it.
 
 use crate::calls::Lent;
-use records::ROW_RECORD;
+use books::number_in;
 use script::record::Row;
 use std::io;
 use std::io::Write;
 
 impl Lent<'_> {
-    // Prints the number of the call, and the part that it gives back.
+    // Prints the number of the call, and the row that it gives back; a refusal gives none.
     pub(crate) fn row<W: Write>(&self, out: &mut W, row: usize) -> io::Result<()> {
-        let number = reading::row_record_number(self.rows, row);
+        let number = number_in(&reading::row_record_number(self.rows, row));
         write!(out, " -> {number}")?;
-        let given = reading::row_record(self.rows, row);
-        match <&[u8; ROW_RECORD]>::try_from(given) {
+        match reading::row_record(self.rows, row) {
             Ok(record) => write!(out, "{}", Row(record)),
-            Err(_) => write!(out, ", length {}", given.len()),
+            Err(_) => write!(out, ", length 0"),
         }
     }
 }
