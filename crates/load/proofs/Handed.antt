@@ -14,9 +14,8 @@ use Rattle.records.specs.Sound.{BooksOf}
 use Rattle.records.proofs.Sound.{books_journals, books_sound, sound_books}
 use Rattle.books.specs.TableCount.{Counted}
 use Rattle.books.proofs.Counts.{table_count_right}
-use Rattle.ask.specs.Ask.{ask_call}
+use Rattle.ask.specs.Ask.{Answer, ask_call}
 use Rattle.feed.specs.Entry.{AfterFeeding, feed_call}
-use Rattle.ask.specs.declared.Ask.{Ask}
 use Rattle.feed.proofs.FeedMeans.{loaded}
 use Rattle.text.specs.Text.{first_line, word_line, last_line}
 use Rattle.list.specs.ListCall.{Asked, asked, whole_list}
@@ -51,7 +50,7 @@ module _ {js : List (List ℕ)} {jb rb : List ℕ} (b : BooksOf js jb rb) where
       ap₂ (λ (u v : List ℕ). u ++ v) (same_line w (h w (Memᴰ.head refl))) (same_lines ws (λ v m. h v (Memᴰ.tail m)))
 
   -- the first line, the pages of the list fetched from its start, and the last line with the number of their words
-  pub handed_on : (ask : Ask) (r : List ℕ) (outs : ℕ → List ℕ) (last : ℕ)
+  pub handed_on : (ask : Answer) (r : List ℕ) (outs : ℕ → List ℕ) (last : ℕ)
       → let a : Asked = asked jb rb ask.quorum ask.limit false r (outs 0) in Fetched a outs last
       → first_line (length js) (length (picture js)) ++ pages_text a outs (suc last) ++ last_line (length (joined a outs (suc last))) ≡ report js ask
   handed_on ask r outs last f =
@@ -64,7 +63,7 @@ module _ {js : List (List ℕ)} {jb rb : List ℕ} (b : BooksOf js jb rb) where
 pub handed_printed : (entries file : List ℕ)
     → let fed : AfterFeeding = feed_call (replicate journal_book_size 0) (replicate row_book_size 0) entries in
     let js : List (List ℕ) = journals_of fed.journals in
-    let ask : Ask = ask_call (length js) file in fed.number ≡ 0 → ask.number ≡ 0 → (r : List ℕ) (outs : ℕ → List ℕ) (last : ℕ)
+    let ask : Answer = ask_call (length js) file in fed.number ≡ 0 → ask.number ≡ 0 → (r : List ℕ) (outs : ℕ → List ℕ) (last : ℕ)
     → let a : Asked = asked fed.journals fed.rows ask.quorum ask.limit false r (outs 0) in Fetched a outs last
     → first_line (length js) (length (picture js)) ++ pages_text a outs (suc last) ++ last_line (length (joined a outs (suc last))) ≡ printed entries file
 unfolding printed

@@ -1,22 +1,16 @@
 -- A page's text grows by a line: the next record's line stands behind those before it, and a record of any content holds at most 15 steps.
 -- Assumes nothing.
-use Prim.Native.Nat.{ℕ, zero, suc, ◌+◌, ◌*◌, ◌-◌, ◌≤◌, ◌<◌, min}
+use Prim.Native.Nat.{ℕ, zero, suc, ◌+◌, ◌*◌, ◌≤◌, ◌<◌}
 use native.Mathlib.Omega.{arith}
 use native.Mathlib.Numerals.{add-one}
-use mathlib.Core.Path.{◌≡◌, refl, sym, ap, ◌∙◌}
-use mathlib.Core.Bool.{Bool, cond}
+use mathlib.Core.Path.{◌≡◌, refl, ap, ◌∙◌}
 use mathlib.Core.List.{List, [], ◌∷◌, ◌++◌, map}
-use lib.ListN.{length, take, drop, get_or, length-take, length-drop}
-use lib.Dec.{leb, ltb}
-use lib.Seq.{take_all, drop-drop}
-use borrow.Author.Tests.{le-leb, ltb-true, ltb-false}
+use lib.ListN.{take, drop, get_or}
+use lib.Seq.{drop-drop}
 use Rattle.std.specs.Simd.{first_chunks}
-use Rattle.words.proofs.Test.{test}
 use Rattle.records.specs.Bytes.{records, flat}
 use Rattle.records.specs.WordRecord.{word_of}
 use Rattle.records.proofs.Flat.{flat_snoc}
-use Rattle.books.specs.TableCount.{table_count_call}
-use Rattle.text.specs.Text.{word_line}
 use Rattle.next_word.specs.Next.{table_of}
 use Rattle.load.specs.Program.{line_by}
 use Rattle.load.specs.Page.{page_lines}
@@ -43,28 +37,6 @@ lines_more rb i page =
     ∙ ap (λ (l : List (List ℕ)). lines (map word_of l)) (records_more 16 i page)
     ∙ ap lines (map_more word_of (records 16 i page) r)
     ∙ flat_snoc (line_by (table_of rb)) (map word_of (records 16 i page)) (word_of r)
-
--- a record of 16 bytes has at most 15 behind its length, whatever that says
-pub record_word : (r : List ℕ) → length r ≡ 16 → take (1 + min (get_or r 0 0) 15 - 1) (drop 1 r) ≡ word_of r
-record_word r l =
-    let n : ℕ = get_or r 0 0 in
-    let k : length (drop 1 r) ≡ 15 = omega (arith, length-drop 1 r) in
-    test (ltb n 15)
-    (λ t. let b = ltb-true n 15 t in
-    let e : 1 + min n 15 - 1 ≡ n = omega arith in
-    rw e)
-    (λ f. let b = ltb-false n 15 f in
-    take_all (1 + min n 15 - 1) (drop 1 r) (omega arith) ∙ sym (take_all n (drop 1 r) (omega arith)))
-
--- the line that is made of a record's word, however many steps its first byte says
-pub record_line : (rb r part line : List ℕ) → length r ≡ 16 → part ≡ take (1 + min (get_or r 0 0) 15 - 1) (drop 1 r)
-    → line ≡ cond (leb (length part) 15) (word_line (table_count_call rb part).count part) [] → line ≡ line_by (table_of rb) (word_of r)
-unfolding table_of
-record_line rb r part line l p e =
-    let k : length part ≤ 15 = omega (arith, ap length p, length-take (1 + min (get_or r 0 0) 15 - 1) (drop 1 r)) in
-    let w : part ≡ word_of r = p ∙ record_word r l in
-    e ∙ ap (λ (b : Bool). cond b (word_line (table_count_call rb part).count part) []) (le-leb (length part) 15 k)
-    ∙ ap (λ (x : List ℕ). word_line (table_count_call rb x).count x) w
 
 -- the records of a page as the library cuts them
 pub record_at : (m n w i : ℕ) (b : List ℕ) → w ≤ n → i < w → get_or (take w (first_chunks m n b)) i [] ≡ take m (drop (m * i) b)

@@ -8,8 +8,7 @@ use Rattle.records.specs.Sizes.{journal_book_size, row_book_size}
 use Rattle.books.specs.Numbers.{done}
 use Rattle.records.specs.JournalBook.{journals_of}
 use Rattle.feed.specs.Entry.{AfterFeeding, feed_call}
-use Rattle.ask.specs.Ask.{ask_call}
-use Rattle.ask.specs.declared.Ask.{Ask}
+use Rattle.ask.specs.Ask.{Answer, ask_call}
 use Rattle.text.specs.Text.{first_line, word_line, last_line, refused_entry_line, refused_ask_line}
 
 -- a word's line, by a count of words
@@ -21,13 +20,13 @@ abbrev pub word_lines : (List ℕ → ℕ) → List (List ℕ) → List ℕ
 word_lines c ws = flat (line_by c) ws
 
 -- the journals' lines: k and the live rows, the list by the ask's quorum and length, the number of words
-abbrev pub report : List (List ℕ) → Ask → List ℕ
+abbrev pub report : List (List ℕ) → Answer → List ℕ
 report js a =
     let ws : List (List ℕ) = list_of (count js) a.quorum a.limit in
     first_line (length js) (length (picture js)) ++ word_lines (count js) ws ++ last_line (length ws)
 
 -- The ask is looked at only after every entry was taken.
-abbrev pub answered : List (List ℕ) → Ask → List ℕ
+abbrev pub answered : List (List ℕ) → Answer → List ℕ
 answered js a = let lines = report js a in cond (eqb a.number done) lines (refused_ask_line a.number)
 
 -- It reads the entries into cleared books, then the ask, and prints.

@@ -19,14 +19,15 @@ pub(crate) const PAGE: usize = 16384;
 const TEXT: usize = 98304;
 
 // The line of the word in a word record, with the count that the table answers.
+#[tactic(auto, unfolding(next_word::specs::Next::table_of))]
 fn record_line(rows: &[u8], word_record: &[u8; WORD_RECORD]) -> Line
     ensures value { result ≡ line_by (table_of rows.now) (word_of word_record.now) }
     ensures fits { length result ≤ line_size }
 {
     let n = word_record[0] as usize;
     let word = &word_record[1..1 + n.min(LONGEST_WORD)];
-    let counted = reading::table_count(rows, word);
-    text::word_line(counted.count, word)
+    let count = reading::table_count(rows, word).unwrap_or(0);
+    text::word_line(count, word)
 }
 
 // The text of the first words of a page, a line each.

@@ -7,7 +7,7 @@ ghost use Rattle.records.specs.JournalBook.{journals_of};
 
 use crate::list_page::{PAGE, PAGE_WORDS, page_text};
 use ask::Ask;
-use books::number::DONE;
+use page::Page;
 use records::WORD_RECORD;
 use std::io;
 use text::Line;
@@ -41,14 +41,13 @@ fn print_words(rt: &impl Print, journals: &[u8], rows: &[u8], ask: Ask) -> io::R
             &word_record,
             &mut page,
         );
-        let wrong = listed.number;
-        if wrong != DONE {
+        let Ok(Page { written, more }) = listed else {
             return Ok(None);
-        }
-        let written = listed.written.min(PAGE_WORDS);
+        };
+        let written = written.min(PAGE_WORDS);
         rt.write_all(page_text(rows, &page, written).as_slice())?;
         words += written;
-        if !listed.more {
+        if !more {
             return Ok(Some(words));
         }
         // A part with words behind it is full.
@@ -64,9 +63,9 @@ pub(crate) fn print_list(
     rows: &[u8],
     ask: Ask,
 ) -> io::Result<()> {
-    let known = reading::open_journals(journals);
-    let live = checking::live_rows(journals, rows);
-    print_line(rt, text::first_line(known.journals, live.rows))?;
+    let k = reading::open_journals(journals).unwrap_or(0);
+    let live = checking::live_rows(journals, rows).unwrap_or(0);
+    print_line(rt, text::first_line(k, live))?;
     match print_words(rt, journals, rows, ask)? {
         Some(words) => print_line(rt, text::last_line(words)),
         None => Ok(()),
