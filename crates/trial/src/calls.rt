@@ -1,6 +1,7 @@
 // The calls of the books: each makes its call on what is lent of them, and prints what that answers.
 
 use books::{Refused, number_in};
+use std::fmt::Display;
 use std::io;
 use std::io::Write;
 
@@ -16,16 +17,14 @@ fn print_number<W: Write>(out: &mut W, answer: Result<(), Refused>) -> io::Resul
     write!(out, " -> {}", number_in(&answer))
 }
 
-// Prints the number of a count, and the count: 0 where it is refused.
-fn print_count<W: Write>(out: &mut W, counted: Result<u8, Refused>) -> io::Result<()> {
-    let number = number_in(&counted);
-    write!(out, " -> {number}, count {}", counted.unwrap_or(0))
-}
-
-// Prints a number and how many journals or rows there are: 0 where it is refused.
-fn print_amount<W: Write>(out: &mut W, told: Result<usize, Refused>) -> io::Result<()> {
+// Prints a number, and behind a text what the call tells: 0 where it is refused.
+fn print_told<W: Write, T: Copy + Default + Display>(
+    out: &mut W,
+    text: &str,
+    told: Result<T, Refused>,
+) -> io::Result<()> {
     let number = number_in(&told);
-    write!(out, " -> {number}, {}", told.unwrap_or(0))
+    write!(out, " -> {number}, {text}{}", told.unwrap_or_default())
 }
 
 impl Lent<'_> {
@@ -62,11 +61,11 @@ impl Lent<'_> {
     }
 
     pub(crate) fn table<W: Write>(&self, out: &mut W, word: &[u8]) -> io::Result<()> {
-        print_count(out, reading::table_count(self.rows, word))
+        print_told(out, "count ", reading::table_count(self.rows, word))
     }
 
     pub(crate) fn count<W: Write>(&self, out: &mut W, word: &[u8]) -> io::Result<()> {
-        print_count(out, reading::journal_count(self.journals, word))
+        print_told(out, "count ", reading::journal_count(self.journals, word))
     }
 
     pub(crate) fn check<W: Write>(&self, out: &mut W) -> io::Result<()> {
@@ -83,10 +82,10 @@ impl Lent<'_> {
     }
 
     pub(crate) fn open_journals<W: Write>(&self, out: &mut W) -> io::Result<()> {
-        print_amount(out, reading::open_journals(self.journals))
+        print_told(out, "", reading::open_journals(self.journals))
     }
 
     pub(crate) fn live_rows<W: Write>(&self, out: &mut W) -> io::Result<()> {
-        print_amount(out, checking::live_rows(self.journals, self.rows))
+        print_told(out, "", checking::live_rows(self.journals, self.rows))
     }
 }
