@@ -1,5 +1,4 @@
--- A page's text grows by a line: the next record's line stands behind those before it, and a record of any content holds at most 15 steps.
--- Assumes nothing.
+-- A page's text grows by a line: the next record's line stands behind those before it. Assumes nothing.
 use Prim.Native.Nat.{ℕ, zero, suc, ◌+◌, ◌*◌, ◌≤◌, ◌<◌}
 use native.Mathlib.Omega.{arith}
 use native.Mathlib.Numerals.{add-one}
