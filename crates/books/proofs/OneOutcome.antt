@@ -1,6 +1,6 @@
 -- No second outcome fits: a promise is an equation between what a call answers and leaves and a function of what it was
 -- given, so two outcomes that keep it are equal. Assumes nothing.
-use Rattle.std.specs.Prelude.{◌≡◌, ℕ, List, cond, eqb, Result, Ok, Err, refl}
+use Rattle.std.specs.Prelude.{◌≡◌, ℕ, List, cond, eqb, Result, Ok, Err, MatchResult, [], refl}
 use Rattle.std.proofs.Common.{sym, ◌∙◌, ap}
 use Rattle.books.specs.Answers.{number_of, number_in, counted_in, open_journals_in, live_rows_in, fault_at, checked_in, refused_by}
 use Rattle.books.specs.Numbers.{done, damaged, wrong_step, no_journal, journal_full, rows_full, journals_full, wrong_quorum, wrong_length, wrong_word, broken_entry, wrong_ask, wrong_row}
@@ -90,11 +90,39 @@ refused_back WrongRow = refl
 pub number_of_one : (e f : Refused) → number_of e ≡ number_of f → e ≡ f
 number_of_one e f h = sym (refused_back e) ∙ ap refused_at h ∙ refused_back f
 
+-- which case an answer is, without what it says where it is done
+abbrev case_of : {A : Type 0} → Result A Refused → Result (Unit {0}) Refused
+case_of (Ok x) = Ok tt
+case_of (Err e) = Err e
+
+-- its number says which
+pub number_in_case : {A : Type 0} (r s : Result A Refused) → number_in r ≡ number_in s → case_of r ≡ case_of s
+number_in_case (Ok x) (Ok y) h = refl
+number_in_case (Ok x) (Err f) h = absurd (refusal_told f (sym h))
+number_in_case (Err e) (Ok y) h = absurd (refusal_told e h)
+number_in_case (Err e) (Err f) h = ap Err (number_of_one e f h)
+
+case_is : (r : Result (Unit {0}) Refused) → case_of r ≡ r
+case_is (Ok x) = refl
+case_is (Err e) = refl
+
 pub number_in_one : (r s : Result (Unit {0}) Refused) → number_in r ≡ number_in s → r ≡ s
-number_in_one (Ok x) (Ok y) h = refl
-number_in_one (Ok x) (Err f) h = absurd (refusal_told f (sym h))
-number_in_one (Err e) (Ok y) h = absurd (refusal_told e h)
-number_in_one (Err e) (Err f) h = ap Err (number_of_one e f h)
+number_in_one r s h = sym (case_is r) ∙ number_in_case r s h ∙ case_is s
+
+-- a row record's answer, with the bytes of the part that it hands back in the part's place
+abbrev bytes_in : {A : Type 0} → (A → List ℕ) → Result A Refused → Result (List ℕ) Refused
+bytes_in bytes (Ok x) = Ok (bytes x)
+bytes_in bytes (Err e) = Err e
+
+-- what the row record's two clauses leave open: nothing but where the part lies
+pub row_record_in_one : {A : Type 0} (bytes : A → List ℕ) (rb : List ℕ) (n : ℕ) (r s : Result A Refused)
+    → number_in r ≡ row_record_number_call rb n → MatchResult r (λ x. bytes x ≡ row_record_call rb n) (λ _. row_record_call rb n ≡ [])
+    → number_in s ≡ row_record_number_call rb n → MatchResult s (λ x. bytes x ≡ row_record_call rb n) (λ _. row_record_call rb n ≡ [])
+    → bytes_in bytes r ≡ bytes_in bytes s
+row_record_in_one bytes rb n (Ok x) (Ok y) k b l d = ap Ok (b ∙ sym d)
+row_record_in_one bytes rb n (Ok x) (Err f) k b l d = absurd (refusal_told f (l ∙ sym k))
+row_record_in_one bytes rb n (Err e) (Ok y) k b l d = absurd (refusal_told e (k ∙ sym l))
+row_record_in_one bytes rb n (Err e) (Err f) k b l d = ap Err (number_of_one e f (k ∙ sym l))
 
 pub counted_in_one : (r s : Result ℕ Refused) → counted_in r ≡ counted_in s → r ≡ s
 counted_in_one (Ok c) (Ok d) h = ap Ok (ap (λ (c : Counted). c.count) h)

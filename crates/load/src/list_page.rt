@@ -24,7 +24,7 @@ fn record_line(rows: &[u8], word_record: &[u8; WORD_RECORD]) -> Line
     ensures value { result ≡ line_by (table_of rows.now) (word_of word_record.now) }
     ensures fits { length result ≤ line_size }
 {
-    let n = word_record[0] as usize;
+    let n = usize::from(word_record[0]);
     let word = &word_record[1..1 + n.min(LONGEST_WORD)];
     let count = reading::table_count(rows, word).unwrap_or(0);
     text::word_line(count, word)

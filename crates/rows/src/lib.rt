@@ -1,5 +1,5 @@
 // The row book read: a row by value, read from its record and written as one; the walk along the arcs; and where two row
-// books first differ. The twin of `journal`.
+// books first differ.
 #![tactic(auto)]
 
 mod difference;

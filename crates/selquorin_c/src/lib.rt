@@ -16,6 +16,8 @@ ghost use Rattle.books.specs.Rebuild.{rebuild_call};
 ghost use Rattle.packing.specs.Packed.{packed_count, packed_check, packed_journals, packed_rows};
 ghost use Rattle.selquorin.specs.PackedList.{packed_list};
 
+// Kept: each call stands here a second time, since a C name is given out by a static library alone, and theorems on the calls by a library (`selquorin`).
+
 // Clears both books.
 #[unsafe(no_mangle)]
 pub extern "C" fn selquorin_clear(journals: &mut [u8], rows: &mut [u8]) -> u8
