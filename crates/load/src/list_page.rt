@@ -39,7 +39,7 @@ pub(crate) fn page_text(rows: &[u8], page: &[u8; PAGE], written: usize) -> Array
     let (word_records, _) = page.as_chunks::<WORD_RECORD>();
     for word_record in &word_records[..written] {
         let line = record_line(rows, word_record);
-        let _fits = text.try_extend_from_slice(line.as_bytes());
+        text.try_extend_from_slice(line.as_bytes()).unwrap();
     }
     text
 }

@@ -28,5 +28,5 @@ loop-word_record-preserved c =
     record_at 16 n a.written i page (omega (arith, size)) (omega (arith, length-take a.written c.as_chunks.result.0.now)) in
     let line : c.as_bytes.result.now ≡ line_by (table_of a.rows.now) (word_of (take 16 (drop (16 * i) page))) =
     c.as_bytes.ensures.value ∙ rw (c.as_chunks.ensures.front, cut) at c.record_line-line.ensures.value in
-    let put : c.try_extend_from_slice-fits.new.self.items ≡ l.text.items ++ c.as_bytes.result.now = search rules in
+    let put : c.try_extend_from_slice.new.self.items ≡ l.text.items ++ c.as_bytes.result.now = search rules in
     (search rules, rw (lines_more a.rows.now i page, put, line, l.invariant.1))
