@@ -65,8 +65,16 @@ def parameters(head):
     return [it.group(1) for it in re.finditer(r"(?:^|[,(] ?)(?:mut )?(\w+): ", m.group(1) + ",")] if m else []
 
 
+def shape(body):
+    """A function's body with every name, number and type made alike."""
+    inner = body[body.index("{", body.rfind("ensures")) + 1:] if "ensures" in body and "{" in body else body
+    inner = re.sub(r"//[^\n]*", "", inner[inner.rfind("}\n{") + 1:] if "}\n{" in inner else inner)
+    return re.sub(r"\s+", " ", re.sub(r"\b\d\w*\b", "0", re.sub(r"\b(?!if\b|else\b|while\b|for\b|return\b|match\b|let\b|mut\b)[A-Za-z_]\w*\b", "x", inner))).strip()
+
+
 def places(all_texts):
     found = collections.OrderedDict()
+    shapes = {}
 
     def add(point, path, line, what):
         found.setdefault(point, []).append((path, line, what))
@@ -89,6 +97,8 @@ def places(all_texts):
                 add("6 buffers with a length beside them", path, line, head)
             if kind == "fn" and re.search(r"\b(t: &(mut )?\[u8\], n: usize|nexts: &\[u8\], k: usize|bytes: &\[u8; MOST\],? n: usize)", head):
                 add("6 buffers with a length beside them", path, line, head)
+            if kind == "fn" and len(shape(body)) > 80:
+                shapes.setdefault(shape(body), []).append((path, line, head))
             if kind == "fn":
                 names = parameters(head)
                 for n in (2, 3, 4):
@@ -115,6 +125,10 @@ def places(all_texts):
             add("7 matches", path, line, what)
         for line, what in lines_with(text, r"\b(dyn |fn\(|Fn\()"):
             add("7 closures and tables of functions", path, line, what)
+    for same in shapes.values():
+        if len(same) > 1:
+            path, line, _ = same[0]
+            add("2 functions with bodies alike but for names, numbers and types (groups)", path, line, "; ".join(it[2][:60] for it in same))
     for fact, n in sorted(facts.items(), key=lambda it: -it[1]):
         if n >= 3:
             add("5 facts that three or more functions require", *where_fact[fact], f"{n}: {fact}")
@@ -125,6 +139,18 @@ def places(all_texts):
     return found
 
 
+def proofs(commit):
+    """How many files of answers there are, and answers in them."""
+    if commit is None:
+        paths = subprocess.run(["git", "ls-files", "crates/*/proofs/*Answers.antt"], capture_output=True, text=True, check=True).stdout.split()
+        texts = [open(it, encoding="utf-8").read() for it in paths if os.path.exists(it)]
+    else:
+        paths = subprocess.run(["git", "ls-tree", "-r", "--name-only", commit, "crates"], capture_output=True, text=True, check=True).stdout.split()
+        paths = [it for it in paths if it.endswith("/Answers.antt")]
+        texts = [subprocess.run(["git", "show", f"{commit}:{it}"], capture_output=True, text=True, check=True).stdout for it in paths]
+    return len(texts), sum(len(re.findall(r"^pub [^ ]+ : goal\.", it, re.M)) for it in texts)
+
+
 def main():
     args = [it for it in sys.argv[1:] if it != "-v"]
     found = places(sources(args[0] if args else None))
@@ -133,6 +159,9 @@ def main():
         if "-v" in sys.argv:
             for path, line, what in found[point]:
                 print(f"       {path}:{line}: {what}")
+    files, answers = proofs(args[0] if args else None)
+    print(f"{files:4} 8 files of answers in proofs/")
+    print(f"{answers:4} 8 answers in them")
 
 
 main()
