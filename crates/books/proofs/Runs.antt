@@ -23,10 +23,10 @@ use Rattle.books.proofs.RebuildCases.{rebuild_keeps}
 use Rattle.records.proofs.Sound.{books_journals, books_sizes, cleared_books}
 
 -- the books of the journals
-abbrev Rebooked : List (List ℕ) → Type 0
+abbrev pub Rebooked : List (List ℕ) → Type 0
 Rebooked js = BooksOf js (journal_book js) (row_book js)
 
-books_of : (js : List (List ℕ)) → AreJournals js → length (picture js) ≤ 1000 → Rebooked js
+pub books_of : (js : List (List ℕ)) → AreJournals js → length (picture js) ≤ 1000 → Rebooked js
 books_of js k f = record { journals = k; fits = f; journal_book_is = refl; row_book_is = refl }
 
 -- what is done leaves new books, what is refused the old

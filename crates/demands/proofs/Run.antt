@@ -21,13 +21,13 @@ use Rattle.books.specs.Open.{open_call}
 use Rattle.books.specs.Rebuild.{rebuild_call}
 use Rattle.books.specs.Runs.{Call, clears, opens, appends, rebuilds, called, Ran}
 use Rattle.books.proofs.Refusals.{given_first, pass}
-use Rattle.books.proofs.Runs.{call_keeps}
+use Rattle.books.proofs.Runs.{call_keeps, Rebooked}
 use Rattle.entries.specs.Entry.{entry_of}
 use Rattle.entries.specs.Meaning.{means as entry_leads_to, is_broken, entry_number}
 use Rattle.entries.specs.declared.entry.Entry.{Entry}
 use Rattle.feed.specs.Entry.{entry_call, feed_from, feed_call}
 use Rattle.feed.proofs.Entries.{entry_whole}
-use Rattle.feed.proofs.EntryMeans.{Rebooked, entry_means, entry_books}
+use Rattle.feed.proofs.EntryMeans.{entry_means, entry_books}
 use Rattle.feed.proofs.FeedMeans.{feed_means}
 use Rattle.feed.proofs.Numbers.{entry_call_numbers}
 use Rattle.demands.specs.Calls.{Writing, calls, entry, entries, written}

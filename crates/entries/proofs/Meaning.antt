@@ -3,12 +3,13 @@
 use Prim.Native.Nat.{ℕ, ◌+◌, ◌≤◌, ◌<◌}
 use native.Mathlib.Omega.{arith}
 use mathlib.Core.Path.{◌≡◌, refl, ap, ◌∙◌}
-use mathlib.Core.Bool.{Bool, true, false, cond, ◌&&◌, false≢true}
+use mathlib.Core.Bool.{Bool, true, false, cond, ◌&&◌}
 use mathlib.Core.List.{List, [], ◌∷◌}
 use lib.ListN.{length}
 use lib.Dec.{eqb, ltb}
 use lib.Seq.{get_or-append-add}
 use borrow.Author.Tests.{eqb-true, ltb-true, ltb-false, leb-false}
+use Rattle.records.proofs.Tests.{both}
 use Rattle.std.specs.Prelude.{Option, Some, None}
 use Rattle.words.specs.Journals.{opened, appended, last_of, steps_at}
 use Rattle.words.specs.Picture.{picture}
@@ -31,10 +32,6 @@ module _ (js : List (List ℕ)) where
   either true x y p q = p refl
   either false x y p q = q refl
 
-  appends : (a b : Bool) → (a && b) ≡ true → (a ≡ true) × (b ≡ true)
-  appends true b t = (refl, t)
-  appends false b t = absurd (false≢true t)
-
   -- what an entry's two bytes ask for
   pub asks : (n s : ℕ) → Asks js (entry_of (length js) n s)
   unfolding entry_of
@@ -48,7 +45,7 @@ module _ (js : List (List ℕ)) where
     where
       there : (eqb (n + 1) (length js) && ltb s 16) ≡ true → (s < 16) × (1 ≤ length js)
       there l =
-          let p = appends (eqb (n + 1) (length js)) (ltb s 16) l in
+          let p = both (eqb (n + 1) (length js)) (ltb s 16) l in
           let e = eqb-true (n + 1) (length js) p.0 in
           (ltb-true s 16 p.1, omega arith)
 

@@ -11,7 +11,6 @@ use borrow.Author.Tests.{lt-leb, le-ltb, leb-false}
 use Rattle.std.specs.Prelude.{Option, Some, None}
 use Rattle.words.specs.Journals.{opened, appended, last_of}
 use Rattle.words.specs.Picture.{picture}
-use Rattle.words.specs.Words.{AreJournals}
 use Rattle.words.proofs.Journals.{length_opened, opened_journals}
 use Rattle.words.proofs.Opening.{never_more}
 use Rattle.words.proofs.Place.{short}
@@ -27,6 +26,7 @@ use Rattle.books.specs.Open.{open_call}
 use Rattle.books.specs.Append.{append_at_call, append_call}
 use Rattle.books.specs.OpenJournals.{open_journals_refusals, open_journals_call}
 use Rattle.books.specs.OpenJournals.{OpenJournals}
+use Rattle.books.proofs.Runs.{Rebooked, books_of}
 use Rattle.books.proofs.OpenJournalsCases.{open_books}
 use Rattle.entries.specs.Entry.{entry_of}
 use Rattle.entries.specs.Meaning.{means, entry_number}
@@ -35,13 +35,6 @@ use Rattle.entries.specs.declared.entry.Entry.TheVariants.{Append, Open, OpenApp
 use Rattle.entries.proofs.Meaning.{Asks, asks, last_opened, means_fits, means_journals}
 use Rattle.feed.specs.Entry.{open_append, open_append_whole, enter, entry_call}
 use Rattle.feed.proofs.EntryCases.{opening_done, whole_unopened}
-
--- the books of the journals
-abbrev pub Rebooked : List (List ℕ) → Type 0
-Rebooked js = BooksOf js (journal_book js) (row_book js)
-
-books_of : (js : List (List ℕ)) → AreJournals js → length (picture js) ≤ 1000 → Rebooked js
-books_of js k f = record { journals = k; fits = f; journal_book_is = refl; row_book_is = refl }
 
 module _ {js : List (List ℕ)} {jb rb : List ℕ} (b : BooksOf js jb rb) where
   append_means : (s : ℕ) → s < 16 → 1 ≤ length js → append_call jb rb s ≡ written (entry_number (Some (Append s)) js) (appended s js) jb rb

@@ -34,7 +34,7 @@ next_within j p s l h =
     (ap₂ (λ (n q : ℕ). cond (eqb (get_or j p 0) s) n q) (sym (add-one p)) (sym (held_place j (p + 1) s (omega arith) ∙ rw add-one)))
 
 -- from the end on
-next_behind : (j : List ℕ) (p s : ℕ) → length j ≤ p → next j p s ≡ 255
+pub next_behind : (j : List ℕ) (p s : ℕ) → length j ≤ p → next j p s ≡ 255
 next_behind j p s h = test (eqb p 255) (λ t. rw t) (λ f. rw (f, drop_of_length-le j h))
 
 module _ (j : List ℕ) (l : length j ≤ 200) (x : ℕ) where

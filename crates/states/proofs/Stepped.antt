@@ -5,7 +5,7 @@ use native.Mathlib.Numerals.{add-one}
 use native.Mathlib.Omega.{arith}
 use mathlib.Core.Path.{◌≡◌, refl, sym, ap, ap₂, ◌∙◌}
 use mathlib.Core.List.{List, [], ◌∷◌, ◌++◌}
-use lib.ListN.{length, take, get_or, set, replicate, length-append, drop_of_length-le, get_or-append}
+use lib.ListN.{length, take, get_or, set, replicate, length-append, get_or-append}
 use lib.Dec.{eqb, ltb}
 use lib.Seq.{get_or-take, get_or_at, set_at, append_snoc, ext_get_or, length-take-le}
 use borrow.Author.Tests.{lt-ltb, le-ltb, ltb-true, ltb-false, eqb-true, eqb-false}
@@ -14,6 +14,7 @@ use Rattle.words.specs.Words.{EachJournal, AreJournals}
 use Rattle.words.proofs.Steps.{step_at, step_length}
 use Rattle.words.proofs.Test.{test}
 use Rattle.records.specs.RowBook.{place_bytes}
+use Rattle.states.proofs.Entries.{next_behind}
 use Rattle.states.specs.Nexts.{Tabled}
 use Rattle.states.specs.Stepped.{next_at, stepped_places, key_of_stepped}
 
@@ -61,10 +62,6 @@ module _ (nexts ps : List ℕ) (s : ℕ) where
       (set_at (stepped_places nexts ps s i) 0 (replicate (16 - suc i) 0) v i (length_stepped i)
       ∙ sym (append_snoc (stepped_places nexts ps s i) v (replicate (16 - suc i) 0)))
 
--- behind a journal every step is lost
-behind : (j : List ℕ) (p s : ℕ) → length j ≤ p → next j p s ≡ 255
-behind j p s h = rw (drop_of_length-le j h) (test (eqb p 255) (λ t. rw t) (λ f. rw f))
-
 -- no journal has more than 200 steps
 short_at : (js : List (List ℕ)) → EachJournal js → (i : ℕ) → length (get_or js i []) ≤ 200
 short_at [] h i = omega arith
@@ -75,7 +72,7 @@ module _ (js : List (List ℕ)) (are : AreJournals js) (nexts : List ℕ) (table
   -- one place in the table is the next place
   next_at_lem : (i p s : ℕ) → i < length js → s < 16 → next_at nexts i p s ≡ next (get_or js i []) p s
   next_at_lem i p s h l =
-      test (ltb 200 p) (λ t. next_lost nexts i p s (ltb-true 200 p t) ∙ sym (behind (get_or js i []) p s (omega (arith, short_at js are.each i, ltb-true 200 p t))))
+      test (ltb 200 p) (λ t. next_lost nexts i p s (ltb-true 200 p t) ∙ sym (next_behind (get_or js i []) p s (omega (arith, short_at js are.each i, ltb-true 200 p t))))
       (λ f. let b : p ≤ 200 = ltb-false 200 p f in
       let d : (16 * p + s) / 16 ≡ p = omega arith in
       let m : (16 * p + s) % 16 ≡ s = omega arith in
