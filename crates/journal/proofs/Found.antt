@@ -1,5 +1,5 @@
 -- A word is in where its first step is found and the rest is in what follows. By induction over the journal. Assumes nothing.
-use Rattle.std.proofs.Common.{◌≡◌, ◌≢◌, ℕ, zero, suc, ◌+◌, ◌<◌, ◌≤◌, false, List, [], ◌∷◌, length, drop, get_or, refl, arith, add-one, ne_eqb, eq-eqb}
+use Rattle.std.proofs.Common.{◌≡◌, ◌≢◌, ℕ, zero, suc, ◌+◌, ◌<◌, ◌≤◌, true, false, List, [], ◌∷◌, length, drop, get_or, refl, arith, add-one, ne_eqb, eq-eqb}
 use Rattle.words.specs.Words.{is_in}
 
 -- behind the first s, at k
@@ -12,6 +12,11 @@ found s w (x ∷ j) (suc k) h e n = rw (ne_eqb x s (n 0 (omega arith))) (found s
 lost : (s : ℕ) (w j : List ℕ) → ((m : ℕ) → m < length j → get_or j m 0 ≢ s) → is_in (s ∷ w) j ≡ false
 lost s w [] n = refl
 lost s w (x ∷ j) n = rw (ne_eqb x s (n 0 (omega arith))) (lost s w j (λ m l. n (suc m) (omega arith)))
+
+-- a word that has no step is in
+pub in_empty : (w j : List ℕ) → length w ≡ 0 → is_in w j ≡ true
+in_empty [] j h = refl
+in_empty (s ∷ w) j h = absurd (omega arith)
 
 -- the same of a word that has a first step, with its rest
 pub in_found : (w j : List ℕ) (k : ℕ) → 1 ≤ length w → k < length j → get_or j k 0 ≡ get_or w 0 0 → ((m : ℕ) → m < k → get_or j m 0 ≢ get_or w 0 0)

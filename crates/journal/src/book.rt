@@ -11,6 +11,23 @@ use crate::steps::is_in;
 use records::JOURNAL_BOOK;
 use words::JOURNALS;
 
+// The number of journals, which is that of the open records before the first that isn't open.
+pub fn open_count(journals: &[u8; JOURNAL_BOOK]) -> usize
+    ensures { result ≡ length (journals_of journals.now) }
+{
+    records(journals)
+        .iter()
+        .position(|r| r[0] != 1)
+        .unwrap_or(JOURNALS)
+}
+
+// The number of the journal opened last, if there is one.
+pub fn last_journal(journals: &[u8; JOURNAL_BOOK]) -> Option<usize>
+    ensures { MatchOption result (length (journals_of journals.now) ≡ 0) (λ i. (i ≡ last_of (journals_of journals.now)) × (i < length (journals_of journals.now))) }
+{
+    open_count(journals).checked_sub(1)
+}
+
 // A lent journal book that has its form.
 #[derive(Clone, Copy)]
 pub struct JournalBook<'a> {
@@ -29,23 +46,6 @@ impl<'a> JournalBook<'a> {
         }
     }
 
-    // The number of journals, which is that of the open records before the first that isn't open.
-    pub fn open_count(&self) -> usize
-        ensures { result ≡ length (journals_of self.now.bytes.now) }
-    {
-        records(self.bytes)
-            .iter()
-            .position(|r| r[0] != 1)
-            .unwrap_or(JOURNALS)
-    }
-
-    // The number of the journal opened last, if there is one.
-    pub fn last_journal(&self) -> Option<usize>
-        ensures { MatchOption result (length (journals_of self.now.bytes.now) ≡ 0) (λ i. (i ≡ last_of (journals_of self.now.bytes.now)) × (i < length (journals_of self.now.bytes.now))) }
-    {
-        self.open_count().checked_sub(1)
-    }
-
     // The steps of journal i, as a part of the book.
     pub fn journal_at(&self, i: usize) -> &'a [u8]
         requires { i < length (journals_of self.now.bytes.now) }
@@ -62,7 +62,7 @@ impl<'a> JournalBook<'a> {
         ensures { result ≡ count (journals_of self.now.bytes.now) word.now }
     {
         let mut n = 0;
-        for i in 0..self.open_count() {
+        for i in 0..open_count(self.bytes) {
             if is_in(word, self.journal_at(i)) {
                 n += 1;
             }

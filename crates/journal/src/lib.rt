@@ -7,5 +7,5 @@ mod form;
 mod steps;
 mod writing;
 
-pub use book::JournalBook;
+pub use book::{JournalBook, last_journal, open_count};
 pub use form::steps_form;

@@ -5,7 +5,7 @@ ghost use Rattle.words.specs.Limits.{longest_journal, most_journals};
 ghost use Rattle.words.specs.Journals.{opened, appended_at, steps_at};
 ghost use Rattle.records.specs.JournalBook.{journals_of, journal_book};
 
-use crate::book::JournalBook;
+use crate::book::{JournalBook, open_count};
 use records::{JOURNAL_BOOK, JOURNAL_RECORD};
 
 impl JournalBook<'_> {
@@ -15,7 +15,7 @@ impl JournalBook<'_> {
         ensures { result ≡ journal_book (opened (journals_of self.now.bytes.now)) }
     {
         let mut wider = *self.bytes;
-        wider[JOURNAL_RECORD * self.open_count()] = 1;
+        wider[JOURNAL_RECORD * open_count(self.bytes)] = 1;
         wider
     }
 

@@ -40,9 +40,7 @@ pub fn journal_count(journals: &[u8], word_record: &[u8]) -> Result<u8, Refused>
     if !journal::steps_form(word, LONGEST_WORD) {
         return Err(Refused::WrongWord);
     }
-    let Ok(book) = JournalBook::read(book) else {
-        return Err(Refused::Damaged);
-    };
+    let book = JournalBook::read(book).or(Err(Refused::Damaged))?;
     let end = 1 + usize::from(word[0]);
     Ok(book.count_in(&word[1..end]))
 }
@@ -52,10 +50,8 @@ pub fn journal_count(journals: &[u8], word_record: &[u8]) -> Result<u8, Refused>
 pub fn open_journals(journals: &[u8]) -> Result<usize, Refused>
     ensures { open_journals_in result ≡ open_journals_call journals.now }
 {
-    match JournalBook::read(sized(journals)?) {
-        Ok(book) => Ok(book.open_count()),
-        Err(_) => Err(Refused::Damaged),
-    }
+    let book = JournalBook::read(sized(journals)?).or(Err(Refused::Damaged))?;
+    Ok(journal::open_count(book.bytes))
 }
 
 // The 64 bytes of a row, handed back where they stand in the lent book.
@@ -74,7 +70,7 @@ pub fn row_record(rows: &[u8], row: usize) -> Result<&[u8; ROW_RECORD], Refused>
 pub fn row_record_number(rows: &[u8], row: usize) -> Result<(), Refused>
     ensures { number_in result ≡ row_record_number_call rows.now row }
 {
-    let _book: &[u8; ROW_BOOK] = sized(rows)?;
+    sized::<ROW_BOOK>(rows)?;
     if ROWS <= row {
         return Err(Refused::WrongRow);
     }

@@ -1,15 +1,11 @@
 -- The table of next places: for each journal, each place 0 to 200 in it and each step, the next place. Assumes nothing.
 use Rattle.std.specs.Prelude.{ℕ, ◌+◌, ◌*◌, ◌/◌, ◌%◌, ◌<◌, ◌≡◌, cond, List, [], length, get_or, ltb, eqb}
-use Rattle.words.specs.Limits.{step_codes, longest_journal, most_journals, lost}
+use Rattle.words.specs.Limits.{step_codes, longest_journal, lost}
 use Rattle.words.specs.Places.{next}
 
 -- the entries of one journal: 201 places by 16 steps
 abbrev pub nexts_of_one : ℕ
 nexts_of_one = (longest_journal + 1) * step_codes
-
--- and those of 16 journals
-abbrev pub nexts_of_all : ℕ
-nexts_of_all = most_journals * nexts_of_one
 
 -- entry x of the journal j, by the entry one place further on
 unfoldable pub next_entry : List ℕ → ℕ → ℕ → ℕ

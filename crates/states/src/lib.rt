@@ -13,7 +13,7 @@ ghost use Rattle.states.specs.Stepped.{stepped_key, with_key};
 ghost use Rattle.states.specs.Found.{Sweeping, Swept, Found};
 
 use keys::{Key, Keys};
-pub use nexts::Nexts;
+pub use nexts::{ALL_NEXTS, NEXTS, Nexts, STEPS};
 use records::ROWS;
 use words::{JOURNALS, STEP_CODES};
 
@@ -44,7 +44,8 @@ fn grow_row(nexts: &Nexts, keys: &mut Keys, i: usize) -> Option<()>
     Some(())
 }
 
-// The keys of all live states, or `None` if they are more than there are rows.
+// The keys of all live states, or `None` if they are more than there are rows. The keys grow as they are walked, so the range is
+// that of all rows there can be, and the walk ends behind the last key.
 pub fn find_states(nexts: &Nexts) -> Option<Keys>
     ensures { AnyTabled nexts.now (λ js. Found js result) }
 {

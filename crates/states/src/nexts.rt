@@ -9,21 +9,21 @@ use journal::JournalBook;
 use words::{JOURNALS, LONGEST_JOURNAL, LOST, STEP_CODES};
 
 // The entries of one journal: 201 places by 16 steps.
-pub(crate) const NEXTS: usize = (LONGEST_JOURNAL + 1) * STEPS;
+pub const NEXTS: usize = (LONGEST_JOURNAL + 1) * STEPS;
 
 // The entries of all journals.
-pub(crate) const ALL_NEXTS: usize = JOURNALS * NEXTS;
+pub const ALL_NEXTS: usize = JOURNALS * NEXTS;
 
 // The entries of one place, one for each step.
 // Kept: `as`, since a constant can't call `usize::from`.
-pub(crate) const STEPS: usize = STEP_CODES as usize;
+pub const STEPS: usize = STEP_CODES as usize;
 
 // The entries of k journals, one after the other.
-#[derive(Drop)]
+#[derive(Clone, Drop)]
 pub struct Nexts {
-    pub(crate) entries: [u8; ALL_NEXTS],
-    pub(crate) k: usize,
-    ghost few: { k ≤ most_journals },
+    pub entries: [u8; ALL_NEXTS],
+    pub k: usize,
+    pub ghost few: { k ≤ most_journals },
 }
 
 // The entry one place further on, or lost behind the last.
@@ -71,7 +71,7 @@ impl Nexts {
     pub fn of(journals: &JournalBook<'_>) -> Self
         ensures { TableOf (journals_of journals.now.bytes.now) result }
     {
-        let k = journals.open_count();
+        let k = journal::open_count(journals.bytes);
         let mut entries = [0; ALL_NEXTS];
         for i in 0..k {
             let a = NEXTS * i;

@@ -26,7 +26,7 @@ pub(crate) fn appended(
     if STEP_CODES <= step {
         return Err(Refused::WrongStep);
     }
-    let Some(last) = book.last_journal() else {
+    let Some(last) = journal::last_journal(book.bytes) else {
         return Err(Refused::NoJournal);
     };
     if LONGEST_JOURNAL <= book.journal_at(last).len() {

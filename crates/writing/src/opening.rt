@@ -19,7 +19,7 @@ pub(crate) fn opened(journals: &[u8], rows: &[u8]) -> Result<[u8; JOURNAL_BOOK],
     ensures book { IfOk result (λ book. book ≡ journal_book (opened (journals_of journals.now))) }
 {
     let book = Sound::read(journals, rows)?.journals;
-    if JOURNALS <= book.open_count() {
+    if JOURNALS <= journal::open_count(book.bytes) {
         return Err(Refused::JournalsFull);
     }
     Ok(book.with_journal())
