@@ -10,6 +10,7 @@ ghost use Rattle.picture.specs.Drawn.{rows_found, drawn};
 
 use drawing::draw_rows;
 use journal::JournalBook;
+use keys::Keys;
 use records::ROW_BOOK;
 use states::{Nexts, find_states};
 
@@ -18,8 +19,10 @@ pub fn draw(journals: &JournalBook<'_>, rows: &mut [u8; ROW_BOOK]) -> Option<usi
     ensures found { result ≡ rows_found (journals_of journals.now.bytes.now) }
     ensures rows_after { rows.new ≡ drawn (journals_of journals.now.bytes.now) rows.old }
 {
-    let nexts = Nexts::of(journals);
-    let keys = find_states(&nexts)?;
+    let mut nexts = Nexts::new();
+    nexts.tabulate(journals);
+    let mut keys = Keys::new();
+    find_states(&nexts, &mut keys)?;
     draw_rows(&nexts, &keys, rows);
     Some(keys.len())
 }

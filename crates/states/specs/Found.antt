@@ -25,5 +25,5 @@ pub record RowKeys (js keys : List (List ℕ)) : Type 0 where
   pub all : keys ≡ map place_bytes (picture js)
 
 -- the keys of the picture's rows were found, or there are more than there is room for
-abbrev pub Found : List (List ℕ) → Option (List (List ℕ)) → Type 0
-Found js result = MatchOption result (most_rows < length (picture js)) (RowKeys js)
+abbrev pub Found : List (List ℕ) → Option (Unit {0}) → List (List ℕ) → Type 0
+Found js result keys = MatchOption result (most_rows < length (picture js)) (λ _. RowKeys js keys)

@@ -19,7 +19,7 @@ pub const ALL_NEXTS: usize = JOURNALS * NEXTS;
 pub const STEPS: usize = STEP_CODES as usize;
 
 // The entries of k journals, one after the other.
-#[derive(Clone, Drop)]
+#[derive(Drop)]
 pub struct Nexts {
     pub entries: [u8; ALL_NEXTS],
     pub k: usize,
@@ -67,16 +67,24 @@ fn fill_nexts(steps: &[u8], entries: &mut [u8])
 impl Nexts {
     ghost use Rattle.states.specs.Table.{TableOf};
 
-    // The table of the journals of a book.
-    pub fn of(journals: &JournalBook<'_>) -> Self
-        ensures { TableOf (journals_of journals.now.bytes.now) result }
+    // A table of no journal.
+    pub fn new() -> Self
+        ensures { result.k ≡ 0 }
     {
-        let k = journal::open_count(journals.bytes);
-        let mut entries = [0; ALL_NEXTS];
-        for i in 0..k {
-            let a = NEXTS * i;
-            fill_nexts(journals.journal_at(i), &mut entries[a..a + NEXTS]);
+        Nexts {
+            entries: [0; ALL_NEXTS],
+            k: 0,
         }
-        Nexts { entries, k }
+    }
+
+    // Makes it the table of the journals of a book. It is lent, since a call that hands 51 KB back needs them twice on the stack.
+    pub fn tabulate(&mut self, journals: &JournalBook<'_>)
+        ensures { TableOf (journals_of journals.now.bytes.now) self.new }
+    {
+        self.k = journal::open_count(journals.bytes);
+        for i in 0..self.k {
+            let a = NEXTS * i;
+            fill_nexts(journals.journal_at(i), &mut self.entries[a..a + NEXTS]);
+        }
     }
 }
