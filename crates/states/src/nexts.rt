@@ -19,7 +19,7 @@ pub const ALL_NEXTS: usize = JOURNALS * NEXTS;
 pub const STEPS: usize = STEP_CODES as usize;
 
 // The entries of k journals, one after the other.
-#[derive(Clone, Drop)]
+#[derive(Drop)]
 pub struct Nexts {
     pub entries: [u8; ALL_NEXTS],
     pub k: usize,
