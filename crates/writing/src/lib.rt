@@ -55,6 +55,8 @@ pub fn rebuild(journals: &[u8], rows: &mut [u8]) -> Result<(), Refused>
 {
     let journals = sized(journals)?;
     let rows = rows.as_mut_array().ok_or(Refused::WrongSize)?;
-    let book = JournalBook::read(journals).or(Err(Refused::Damaged))?;
+    let Ok(book) = JournalBook::read(journals) else {
+        return Err(Refused::Damaged);
+    };
     write_rows(&book, rows)
 }
