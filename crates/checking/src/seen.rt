@@ -19,16 +19,16 @@ fn see_rows(journals: &JournalBook<'_>, rows: &[u8; ROW_BOOK]) -> Result<usize, 
     ensures live { IfOk result (λ live. live ≡ length (picture (journals_of journals.now.bytes.now))) }
 {
     let mut drawn = [0; ROW_BOOK];
-    let Some(live) = picture::draw(journals, &mut drawn) else {
-        return Err(Fault::Row(ROWS, 0));
-    };
+    // The record behind the last row stands for more live states than rows, as document 01 names it.
+    let live = picture::draw(journals, &mut drawn).ok_or(Fault::Row(ROWS, 0))?;
     match first_difference(rows, &drawn) {
         Some(spot) => Err(Fault::Row(spot.row, spot.byte)),
         None => Ok(live),
     }
 }
 
-// Books that were found sound: the journal book, and how many live rows they have.
+// Books that were found sound: the journal book, and how many live rows they have. The type promises the journal book's form and the
+// number of live rows; that both books are sound, `Sound::read` says.
 #[derive(Clone, Copy)]
 pub struct Sound<'a> {
     pub journals: JournalBook<'a>,
@@ -43,15 +43,9 @@ impl<'a> Sound<'a> {
         ensures says { checked_in result ≡ check_call journals.now rows.now }
         ensures book { IfOk result (λ sound. sound.journals.bytes.now ≡ journals.now) }
     {
-        let Ok((journals, rows)) = right_sizes(journals, rows) else {
-            return Err(Fault::WrongSizes);
-        };
-        match JournalBook::read(journals) {
-            Ok(journals) => {
-                let live = see_rows(&journals, rows)?;
-                Ok(Sound { journals, live })
-            }
-            Err(wrong) => Err(Fault::Journal(wrong)),
-        }
+        let (journals, rows) = right_sizes(journals, rows).or(Err(Fault::WrongSizes))?;
+        let journals = JournalBook::read(journals).map_err(Fault::Journal)?;
+        let live = see_rows(&journals, rows)?;
+        Ok(Sound { journals, live })
     }
 }

@@ -54,9 +54,7 @@ pub fn rebuild(journals: &[u8], rows: &mut [u8]) -> Result<(), Refused>
     ensures { after (number_in result) journals.now rows.new ≡ rebuild_call journals.now rows.old }
 {
     let journals = sized(journals)?;
-    let Some(rows) = rows.as_mut_array() else {
-        return Err(Refused::WrongSize);
-    };
+    let rows = rows.as_mut_array().ok_or(Refused::WrongSize)?;
     let Ok(book) = JournalBook::read(journals) else {
         return Err(Refused::Damaged);
     };

@@ -1,4 +1,4 @@
-// Writing the row book alone, and both books, which no other file does but for clearing them.
+// Writing the row book alone, and both books, which no other file of this crate does but for clearing them.
 
 ghost use Rattle.std.specs.Prelude.{◌≡◌, true, [], ◌∷◌};
 ghost use Rattle.records.specs.JournalBook.{journals_of};
@@ -22,10 +22,8 @@ pub(crate) fn write_rows(
     ensures number { number_in result ≡ first (rows_refusal (journals_of journals.now.bytes.now) ∷ []) }
     ensures rows_after { rows.new ≡ unless (number_in result) (row_book (journals_of journals.now.bytes.now)) rows.old }
 {
-    match picture::draw(journals, rows) {
-        Some(_) => Ok(()),
-        None => Err(Refused::RowsFull),
-    }
+    picture::draw(journals, rows).ok_or(Refused::RowsFull)?;
+    Ok(())
 }
 
 // Writes a new journal book and its picture, or leaves both books where the picture doesn't fit.
@@ -38,10 +36,7 @@ pub(crate) fn write_books(
     requires { right_sizes journals.old rows.old ≡ true }
     ensures { after (number_in result) journals.new rows.new ≡ write_call (journals_of made.now.bytes.now) journals.old rows.old }
 {
-    let Some(rows) = rows.as_mut_array() else {
-        unreachable!()
-    };
-    write_rows(made, rows)?;
+    write_rows(made, rows.as_mut_array().unwrap())?;
     let bytes = made.bytes;
     journals.copy_from_slice(bytes);
     Ok(())
