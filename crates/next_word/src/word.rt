@@ -16,7 +16,7 @@ use words::STEP_CODES;
 const HIGHEST_STEP: u8 = STEP_CODES - 1;
 
 // A word of up to 15 steps. A contract sees the row of its steps.
-#[derive(Drop)]
+#[derive(Clone, Drop)]
 pub struct Word {
     steps: ArrayVec<u8, LONGEST_WORD>,
 }
