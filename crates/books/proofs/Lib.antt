@@ -18,3 +18,4 @@ pub mod OpenJournalsCases
 pub mod LiveRowsCases
 pub mod RebuildCases
 pub mod Runs
+pub mod NegatedTests

@@ -6,6 +6,7 @@ ghost use Rattle.books.specs.Check.{checked};
 
 use crate::refused::Refused;
 
+// Kept: a type beside the spot of `rows`, since a fault is what a call answers, and names row 1,000 too; a spot lies in the book.
 #[derive(Clone, Copy, Debug, PartialEq, Eq)]
 pub enum Fault {
     // Not both books have their sizes.

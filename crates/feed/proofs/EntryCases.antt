@@ -1,7 +1,7 @@
 -- Opening and appending by their cases, and both as a whole: refused, or done. Assumes nothing.
 use Prim.Native.Nat.{ℕ}
 use native.Mathlib.Omega.{arith}
-use mathlib.Core.Path.{◌≡◌, ap, sym, ◌∙◌}
+use mathlib.Core.Path.{◌≡◌, ap, ◌∙◌}
 use mathlib.Core.Bool.{false}
 use mathlib.Core.List.{List}
 use lib.ListN.{length}
@@ -9,9 +9,6 @@ use lib.Dec.{eqb}
 use borrow.Author.Tests.{eq-eqb, ne_eqb}
 use Rattle.std.proofs.Math.Bool.{and-false}
 use Rattle.records.specs.Sound.{right_sizes}
-use Rattle.books.specs.Answers.{number_of}
-use Rattle.books.specs.declared.refused.Refused.{Refused}
-use Rattle.books.proofs.RefusalNumbers.{refusal_told}
 use Rattle.books.specs.Numbers.{first}
 use Rattle.books.specs.Clear.{After, after}
 use Rattle.books.specs.Open.{open_refusals, open_call}
@@ -31,19 +28,6 @@ module _ (jb rb : List ℕ) (s : ℕ) where
     pub opening_done : n ≡ 0 → append_call oj or s ≡ open_append jb rb s
     unfolding open_append
     opening_done z = rw (← o, eq-eqb n 0 z)
-
-  -- both as a whole: a refusal leaves the books
-  pub whole_refused : ((open_append jb rb s).number ≡ 0 → ⊥) → open_append_whole jb rb s ≡ after (open_append jb rb s).number jb rb
-  unfolding open_append_whole
-  whole_refused h =
-      let a : After = open_append jb rb s in
-      rw (refused a.number a.journals jb h, refused a.number a.rows rb h)
-
-  -- so it does where the code refuses
-  pub whole_stays : (e : Refused) (oj or : List ℕ) → after (number_of e) oj or ≡ open_append jb rb s → after (number_of e) jb rb ≡ open_append_whole jb rb s
-  whole_stays e oj or h =
-      let n : number_of e ≡ (open_append jb rb s).number = ap (λ (a : After). a.number) h in
-      rw n (sym (whole_refused (λ z. refusal_told e (n ∙ z))))
 
   -- where opening is refused
   pub whole_unopened : (n : ℕ) → (n ≡ 0 → ⊥) → after n jb rb ≡ open_call jb rb → open_append_whole jb rb s ≡ after n jb rb

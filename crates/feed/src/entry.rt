@@ -5,11 +5,11 @@ ghost use Rattle.books.specs.Answers.{number_in};
 ghost use Rattle.books.specs.Clear.{after};
 ghost use Rattle.feed.specs.Entry.{open_append, open_append_whole, entry_call, take_call};
 
-use books::Refused;
+use books::{Refused, sized};
 use entries::{Entry, LoneByte, entry_of};
 use records::{JOURNAL_BOOK, ROW_BOOK};
 
-// Kept: the two books stay two parameters, since each exported call lends them as two slices (`selquorin_c`) and each contract names both.
+// Kept: the two books stay two parameters, as in every call, since `entry_call` names both.
 
 // Opens the next journal and, where that is done, appends to it.
 #[tactic(auto, unfolding(crate::specs::Entry::open_append))]
@@ -21,16 +21,12 @@ fn open_append(journals: &mut [u8], rows: &mut [u8], step: u8) -> Result<(), Ref
 }
 
 // Opens the next journal and appends to it, or does neither: on copies of the books until both are done.
-#[tactic(auto, using(crate::proofs::EntryCases::whole_journals, crate::proofs::EntryCases::whole_rows, crate::proofs::EntryCases::whole_stays), unfolding(crate::specs::Entry::open_append_whole))]
+#[tactic(auto, using(crate::proofs::EntryCases::whole_journals, crate::proofs::EntryCases::whole_rows), unfolding(crate::specs::Entry::open_append_whole))]
 fn open_append_whole(journals: &mut [u8], rows: &mut [u8], step: u8) -> Result<(), Refused>
     ensures { after (number_in result) journals.new rows.new ≡ open_append_whole journals.old rows.old step }
 {
-    let Ok(mut new_journals) = <[u8; JOURNAL_BOOK]>::try_from(&*journals) else {
-        return Err(Refused::WrongSize);
-    };
-    let Ok(mut new_rows) = <[u8; ROW_BOOK]>::try_from(&*rows) else {
-        return Err(Refused::WrongSize);
-    };
+    let mut new_journals: [u8; JOURNAL_BOOK] = *sized(journals)?;
+    let mut new_rows: [u8; ROW_BOOK] = *sized(rows)?;
     open_append(&mut new_journals, &mut new_rows, step)?;
     journals.copy_from_slice(&new_journals);
     rows.copy_from_slice(&new_rows);
@@ -59,8 +55,6 @@ pub(crate) fn take(
 ) -> Result<(), Refused>
     ensures { after (number_in result) journals.new rows.new ≡ take_call journals.old rows.old read }
 {
-    match read {
-        Ok((number, step)) => enter(journals, rows, number, step),
-        Err(LoneByte) => Err(Refused::BrokenEntry),
-    }
+    let (number, step) = read.or(Err(Refused::BrokenEntry))?;
+    enter(journals, rows, number, step)
 }

@@ -2,12 +2,15 @@
 #![tactic(auto)]
 
 mod decide;
+mod due;
 
 ghost use Rattle.std.specs.Prelude.{◌≡◌};
 ghost use Rattle.list.specs.ListCall.{asked, listed_in, wrote, list_call};
 
-use books::Refused;
-use decide::{decide, first_due, word_after};
+use books::{Refused, sized};
+pub use decide::LARGEST_OUTPUT;
+use decide::decide;
+use due::{first_due, word_after};
 use next_word::Search;
 use page::{Page, write_page};
 
@@ -25,12 +28,13 @@ pub fn list(
 ) -> Result<Page, Refused>
     ensures { wrote (listed_in result) out.new ≡ list_call (asked journals.now rows.now quorum limit after word_record.now out.old) }
 {
-    decide(journals, rows, quorum, limit, after, word_record, out)?;
+    let word = sized(word_record)?;
+    decide(journals, rows, quorum, limit, after, word, out)?;
     let search = Search {
         rows,
         quorum,
         limit,
     };
-    let first = first_due(&search, word_after(after, word_record));
+    let first = first_due(&search, word_after(after, word));
     Ok(write_page(&search, first, out))
 }

@@ -137,6 +137,18 @@ climbed_less (s ∷ c) d m = go (λ v i. climbed_less c v i) (onto_cases s (clim
 pub moved_less : (c d : List ℕ) → d ∷ [] ≡ climbed c → slack d < slack c
 moved_less c d to = climbed_less c d (rw (← to) (Memᴰ.head refl))
 
+-- how far the search can still go from where it stands
+abbrev pub to_go : List (List ℕ) → ℕ
+to_go [] = 0
+to_go (c ∷ cs) = suc (slack c)
+
+pub climbed_go : (c : List ℕ) → to_go (climbed c) < suc (slack c)
+climbed_go c = go (climbed c) (λ d m. climbed_less c d m)
+  where
+    go : (ds : List (List ℕ)) → ((d : List ℕ) → Memᴰ d ds → slack d < slack c) → to_go ds < suc (slack c)
+    go [] h = omega arith
+    go (d ∷ ds) h = omega (arith, h d (Memᴰ.head refl))
+
 -- the first extension of a word is the very next word
 pub extend_after : (w : List ℕ) (l : List (List ℕ)) → past w l ≡ from_on (w ++ (0 ∷ [])) l
 extend_after w l = past_from w ((w ++ (0 ∷ [])) ∷ []) l (λ x m. before_first w x)

@@ -9,7 +9,7 @@ ghost use Rattle.records.specs.Sizes.{longest_word};
 use crate::word::{Word, climb};
 
 // What the list is asked for: the words of at most `limit` steps whose count by the row book reaches the quorum.
-#[derive(Clone, Copy)]
+#[derive(Clone, Copy, Debug)]
 pub struct Search<'a> {
     pub rows: &'a [u8],
     pub quorum: usize,

@@ -2,13 +2,13 @@
 
 ghost use Rattle.std.specs.Prelude.{◌≡◌, true, [], ◌∷◌, ◌++◌, ◌+◌, ◌-◌, ◌≤◌, ◌<◌, length, take, slice_get, slice_index, option_to_list, IfSome};
 ghost use Rattle.next_word.specs.Next.{climbed};
-ghost use Rattle.records.specs.Sizes.{word_record_size, longest_word};
+ghost use Rattle.records.specs.Sizes.{longest_word};
 ghost use Rattle.records.specs.WordRecord.{word_form, word_of};
 ghost use Rattle.words.specs.Limits.{step_codes};
 ghost use Rattle.words.specs.Words.{IsWord};
 
 use arrayvec::ArrayVec;
-use records::LONGEST_WORD;
+use records::{LONGEST_WORD, WORD_RECORD};
 use std::marker::Model;
 use words::STEP_CODES;
 
@@ -16,7 +16,7 @@ use words::STEP_CODES;
 const HIGHEST_STEP: u8 = STEP_CODES - 1;
 
 // A word of up to 15 steps. A contract sees the row of its steps.
-#[derive(Drop)]
+#[derive(Clone, Drop)]
 pub struct Word {
     steps: ArrayVec<u8, LONGEST_WORD>,
 }
@@ -45,8 +45,8 @@ impl Word {
 
     // The word of a word record.
     #[tactic(auto, using(crate::proofs::WordMoves::record_word))]
-    pub fn from_record(word_record: &[u8]) -> Word
-        requires { (length word_record.now ≡ word_record_size) × (word_form word_record.now ≡ true) }
+    pub fn from_record(word_record: &[u8; WORD_RECORD]) -> Word
+        requires { word_form word_record.now ≡ true }
         ensures { result ≡ word_of word_record.now }
     {
         let n = usize::from(word_record[0]);

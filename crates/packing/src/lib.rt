@@ -12,10 +12,7 @@ use books::{Fault, Refused};
 pub fn packed_count(counted: Result<u8, Refused>) -> u32
     ensures { result ≡ packed_count (counted_in counted) }
 {
-    match counted {
-        Ok(count) => 256 * u32::from(count),
-        Err(refused) => u32::from(u8::from(refused)),
-    }
+    packed_amount(counted.map(usize::from))
 }
 
 // What the check says: the number, the book 2^8 times, the record 2^16 times and the byte 2^32 times.
@@ -37,6 +34,7 @@ pub fn packed_check(seen: Result<(), Fault>) -> u64
 }
 
 // What a page of the list answers: the number, whether a further word remains 2^8 times and how many were written 2^16 times.
+// Kept: three numbers in place of an answer, since `packing` stands below `page` and `list`, whose types the answer has.
 pub fn packed_page(number: u8, more: bool, written: usize) -> u64
     requires { written ≤ most_words }
     ensures { result ≡ packed_page number more written }
