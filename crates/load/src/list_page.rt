@@ -14,9 +14,9 @@ use text::Line;
 // How many words a page has, and the bytes of it and of its text: a line has at most 96 bytes.
 pub(crate) const PAGE_WORDS: usize = 1024;
 
-pub(crate) const PAGE: usize = 16384;
+pub(crate) const PAGE: usize = PAGE_WORDS * WORD_RECORD;
 
-const TEXT: usize = 98304;
+const TEXT: usize = PAGE_WORDS * 96;
 
 // The line of the word in a word record, with the count that the table answers.
 #[tactic(auto, unfolding(next_word::specs::Next::table_of))]
