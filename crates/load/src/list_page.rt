@@ -14,15 +14,15 @@ use text::Line;
 // How many words a page has, and the bytes of it and of its text: a line has at most 96 bytes.
 pub(crate) const PAGE_WORDS: usize = 1024;
 
-pub(crate) const PAGE: usize = 16384;
+pub(crate) const PAGE: usize = PAGE_WORDS * WORD_RECORD;
 
-const TEXT: usize = 98304;
+const TEXT: usize = PAGE_WORDS * 96;
 
 // The line of the word in a word record, with the count that the table answers.
 #[tactic(auto, unfolding(next_word::specs::Next::table_of))]
 fn record_line(rows: &[u8], word_record: &[u8; WORD_RECORD]) -> Line
-    ensures value { result ≡ line_by (table_of rows.now) (word_of word_record.now) }
-    ensures fits { length result ≤ line_size }
+    ensures value { result.text.bytes ≡ line_by (table_of rows.now) (word_of word_record.now) }
+    ensures fits { length result.text.bytes ≤ line_size }
 {
     let n = usize::from(word_record[0]);
     let word = &word_record[1..1 + n.min(LONGEST_WORD)];

@@ -1,12 +1,16 @@
 // Printing: the first line, a line for each word of the list, page after page, and the last line.
 
-ghost use Rattle.std.specs.Prelude.{◌≡◌, ◌≤◌, length, IfOk, IfSome};
+ghost use Rattle.std.specs.Prelude.{◌≡◌, length, replicate, IfOk, IfSome};
+ghost use Rattle.std.specs.Option.{is_some, unwrap_or};
 ghost use Rattle.words.specs.Words.{count};
 ghost use Rattle.words.specs.Listing.{list_of};
 ghost use Rattle.records.specs.JournalBook.{journals_of};
+ghost use Rattle.records.specs.Sizes.{word_record_size};
+ghost use Rattle.list.specs.ListCall.{asked, listed_in, wrote, list_call};
 
 use crate::list_page::{PAGE, PAGE_WORDS, page_text};
 use ask::Ask;
+use books::Refused;
 use page::Page;
 use records::WORD_RECORD;
 use std::io;
@@ -20,6 +24,31 @@ pub(crate) fn print_line(rt: &impl Print, line: Line) -> io::Result<()> {
     rt.write_all(line.as_bytes())
 }
 
+// Fetches a page of the list, from the start or after a word.
+// Kept: the two books stay two parameters, here and up to `main`, as in every call that they are handed to.
+fn fetch(
+    journals: &[u8],
+    rows: &[u8],
+    ask: Ask,
+    last: Option<[u8; WORD_RECORD]>,
+    page: &mut [u8; PAGE],
+) -> Result<Page, Refused>
+    ensures { wrote (listed_in result) page.new ≡ list_call (asked journals.now rows.now ask.quorum ask.limit
+        (is_some last) (unwrap_or last (replicate word_record_size 0)) page.old) }
+{
+    let after = last.is_some();
+    let word_record = last.unwrap_or([0u8; WORD_RECORD]);
+    list::list(
+        journals,
+        rows,
+        ask.quorum,
+        ask.limit,
+        after,
+        &word_record,
+        page,
+    )
+}
+
 // Prints the words of the list, page after page, from the start or after a word. Answers how many there were, if the list
 // came to its end. Then they are as many as the list has.
 fn print_words(rt: &impl Print, journals: &[u8], rows: &[u8], ask: Ask) -> io::Result<Option<usize>>
@@ -30,18 +59,7 @@ fn print_words(rt: &impl Print, journals: &[u8], rows: &[u8], ask: Ask) -> io::R
     let mut last: Option<[u8; WORD_RECORD]> = None;
     let mut words = 0;
     for _ in 0..TURNS {
-        let after = last.is_some();
-        let word_record = last.unwrap_or([0u8; WORD_RECORD]);
-        let listed = list::list(
-            journals,
-            rows,
-            ask.quorum,
-            ask.limit,
-            after,
-            &word_record,
-            &mut page,
-        );
-        let Ok(Page { written, more }) = listed else {
+        let Ok(Page { written, more }) = fetch(journals, rows, ask, last, &mut page) else {
             return Ok(None);
         };
         let written = written.min(PAGE_WORDS);

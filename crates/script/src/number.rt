@@ -11,13 +11,11 @@ pub type Numbers<T> = ArrayVec<T, MOST>;
 
 // The value of a digit.
 fn digit(byte: u8) -> Option<usize> {
-    match byte {
-        b'0'..=b'9' => Some(usize::from(byte - b'0')),
-        _ => None,
-    }
+    byte.is_ascii_digit().then(|| usize::from(byte - b'0'))
 }
 
 // A number in digits, modulo 2^64.
+// Kept: digit by digit, since a number past 2^64 is read too, which `parse` refuses.
 fn number(text: &[u8]) -> Option<usize> {
     if text.is_empty() {
         return None;

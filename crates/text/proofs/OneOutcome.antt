@@ -5,12 +5,12 @@ use mathlib.Core.Bool.{cond}
 use mathlib.Core.List.{List, []}
 use lib.ListN.{length}
 use lib.Dec.{leb}
-use Rattle.text.specs.declared.Line.{Line}
+use Rattle.text.specs.declared.line.Line.{Line}
 use Rattle.text.specs.Text.{first_line, word_line, last_line, refused_entry_line, refused_ask_line}
 
--- two lines that hold the text are equal
+-- two lines that hold the text hold the same
 abbrev pub OneLine : List ℕ → Type 0
-OneLine t = (l m : Line) → l ≡ t → m ≡ t → l ≡ m
+OneLine t = (l m : Line) → l.text.bytes ≡ t → m.text.bytes ≡ t → l.text.bytes ≡ m.text.bytes
 
 -- of every text
 one_line : (t : List ℕ) → OneLine t

@@ -1,6 +1,6 @@
 // The calls of the books: each makes its call on what is lent of them, and prints what that answers.
 
-use books::{Refused, number_in};
+use books::{Fault, Refused, number_in};
 use std::fmt::Display;
 use std::io;
 use std::io::Write;
@@ -71,10 +71,7 @@ impl Lent<'_> {
     pub(crate) fn check<W: Write>(&self, out: &mut W) -> io::Result<()> {
         let checked = checking::check(self.journals, self.rows);
         let number = number_in(&checked.map_err(Refused::from));
-        let (book, record, byte) = match checked {
-            Ok(()) => (0, 0, 0),
-            Err(fault) => fault.place(),
-        };
+        let (book, record, byte) = checked.err().map(Fault::place).unwrap_or_default();
         write!(
             out,
             " -> {number}, book {book}, record {record}, byte {byte}"

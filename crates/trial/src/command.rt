@@ -10,9 +10,10 @@ pub(crate) enum Book {
     Rows,
 }
 
-// A page of the list: from the start, or after a word record. It goes into so many bytes as are lent.
+// A page of the list that is asked for: from the start, or after a word record. It goes into so many bytes as are lent.
+// Kept: `after` with the word beside it, since the list is given a word record's bytes from the start too (`list_refusals`).
 #[derive(Clone, Copy)]
-pub(crate) struct Page<'a> {
+pub(crate) struct Asked<'a> {
     pub(crate) quorum: usize,
     pub(crate) length: usize,
     pub(crate) after: bool,
@@ -33,7 +34,7 @@ pub(crate) enum Call<'a> {
     Row(usize),
     Journals,
     Rows,
-    List(Page<'a>),
+    List(Asked<'a>),
 }
 
 // A command: a call, or bytes into a book at a place, how many bytes of a book are lent, one byte all over the output's room,
@@ -89,7 +90,7 @@ impl<'a> Call<'a> {
             (b"row", [row], []) => Some(Call::Row(*row)),
             (b"journals", [], []) => Some(Call::Journals),
             (b"rows", [], []) => Some(Call::Rows),
-            (b"list" | b"after", [quorum, length, lent], word) => Some(Call::List(Page {
+            (b"list" | b"after", [quorum, length, lent], word) => Some(Call::List(Asked {
                 quorum: *quorum,
                 length: *length,
                 after: matches!(name, b"after"),

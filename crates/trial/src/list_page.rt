@@ -1,9 +1,10 @@
 // A page of the list: the call, and what is printed of it.
 
 use crate::calls::Lent;
-use crate::command::Page;
+use crate::command::Asked;
 use crate::stop::Stop;
 use books::{Refused, number_in};
+use page::Page;
 use records::WORD_RECORD;
 use script::digest::digest;
 use script::record::Words;
@@ -17,14 +18,13 @@ const FEW: usize = 8;
 // few and fit there. A refusal says that none was written and none remains.
 fn print_listed<W: Write>(
     out: &mut W,
-    listed: Result<page::Page, Refused>,
+    listed: Result<Page, Refused>,
     room: &[u8],
 ) -> io::Result<()> {
     let number = number_in(&listed);
-    let (written, more) = match listed {
-        Ok(page) => (page.written, page.more),
-        Err(_) => (0, false),
-    };
+    let (written, more) = listed
+        .map(|Page { written, more }| (written, more))
+        .unwrap_or_default();
     write!(
         out,
         " -> {number}, written {written}, more {}, digest {}",
@@ -45,19 +45,19 @@ impl Lent<'_> {
     pub(crate) fn page<W: Write>(
         &self,
         out: &mut W,
-        page: Page,
+        asked: Asked,
         room: &mut [u8],
     ) -> Result<(), Stop> {
-        let end = page.lent.checked_add(WORD_RECORD).ok_or(Stop::Broken)?;
+        let end = asked.lent.checked_add(WORD_RECORD).ok_or(Stop::Broken)?;
         let shown = room.get_mut(..end).ok_or(Stop::Broken)?;
         let listed = list::list(
             self.journals,
             self.rows,
-            page.quorum,
-            page.length,
-            page.after,
-            page.word,
-            &mut shown[..page.lent],
+            asked.quorum,
+            asked.length,
+            asked.after,
+            asked.word,
+            &mut shown[..asked.lent],
         );
         print_listed(out, listed, shown)?;
         Ok(())

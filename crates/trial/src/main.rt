@@ -60,6 +60,7 @@ fn run<W: Write>(out: &mut W, script: &[u8], rooms: &mut Rooms) -> io::Result<()
 }
 
 // Reads until the buffer is full or the input ends. Answers how many bytes there are.
+// Kept: the loading program reads likewise (`read_input`), and a crate for these ten lines would be no plainer.
 fn read_script<R: Read>(input: &mut R, buffer: &mut [u8]) -> io::Result<usize>
     ensures { IfOk result (λ n. n ≤ length buffer.old) }
 {

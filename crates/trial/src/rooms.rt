@@ -18,6 +18,7 @@ const LARGEST_OUTPUT: usize = 65536;
 const OUTPUT_ROOM: usize = LARGEST_OUTPUT + 2 * WORD_RECORD;
 
 // The room of a book, and how many bytes of it are lent.
+// Kept: a number and not a slice, since `lent` may be larger than the room, which is tried too.
 #[derive(Drop)]
 struct Room<const N: usize> {
     bytes: [u8; N],
@@ -83,7 +84,7 @@ impl Rooms {
             Call::Row(row) => lent.row(out, row)?,
             Call::Journals => lent.open_journals(out)?,
             Call::Rows => lent.live_rows(out)?,
-            Call::List(page) => lent.page(out, page, &mut self.output)?,
+            Call::List(asked) => lent.page(out, asked, &mut self.output)?,
         }
         Ok(())
     }

@@ -1,4 +1,4 @@
--- `text::word_line` meets its contract. The invariant: the line is the word's length, its count and its steps so far, in at most 3 bytes and 4 for
+-- `text::word_line` meets its contract. The invariant: the line is the word's length, its count and its steps so far, in at most 20 bytes and 4 for
 -- each number behind the first. Assumes nothing.
 use Prim.Native.Nat.{◌+◌, ◌*◌, ◌≤◌}
 use mathlib.Core.Path.{◌≡◌}
@@ -8,4 +8,4 @@ use Rattle.text.specs.Text.{decimal, spaced}
 use Rattle.text.proofs.word_line.Given as goal
 
 abbrev pub invariant-loop-step : goal.invariant-loop-step
-invariant-loop-step l = (length l.line ≤ 3 + 4 * (l.step-index + 1)) × (l.line ≡ decimal (length l.word) ++ spaced (l.count ∷ take l.step-index l.word))
+invariant-loop-step l = (length l.line.text.bytes ≤ 20 + 4 * (l.step-index + 1)) × (l.line.text.bytes ≡ decimal (length l.word) ++ spaced (l.count ∷ take l.step-index l.word))
