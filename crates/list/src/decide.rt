@@ -22,6 +22,7 @@ fn wrong_output(out: &[u8]) -> bool
 }
 
 // Whether the list is refused, and with what.
+// Kept: seven parameters, which are those of the call, and C lends them one by one; a struct of them would be taken apart at once.
 pub(crate) fn decide(
     journals: &[u8],
     rows: &[u8],

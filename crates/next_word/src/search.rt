@@ -31,6 +31,8 @@ impl<'a> Search<'a> {
         self.quorum <= usize::from(count)
     }
 
+    // Kept: that a word has at most `limit` steps stays a clause, here, in `page` and in `list`: a `Word` knows of no limit.
+
     // The first word of the list from w on: a word below the quorum is left for the next one that is no extension of it.
     pub fn first_from(&self, w: Word) -> Option<Word>
         requires { length w ≤ self.now.limit }

@@ -41,7 +41,7 @@ pub fn write_page(search: &Search, first: Option<Word>, out: &mut [u8]) -> Page
 {
     let mut at = first;
     let room = out.len() / WORD_RECORD;
-    // Kept: the part is lent by its bounds, not by `chunks_exact_mut`, since document 01 lends a `&mut` part starting mid-output.
+    // Kept: the part is lent by its bounds, which is document 01's form; `chunks_exact_mut` is no plainer, since the page may end early.
     for i in 0..room {
         let Some(word) = at else {
             return Page {

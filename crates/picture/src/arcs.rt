@@ -12,6 +12,7 @@ use std::array;
 
 // Kept: the table and the keys stay two parameters: the search puts keys in while it reads the table, and here both are only read.
 
+// Kept: 0 stands for no arc, as in a row's bytes, which `key_arc` and document 01 hold.
 // The arc of a key under step s: the row number of the state that it leads to, and 0 if that isn't live.
 #[tactic(auto, unfolding(crate::specs::KeyRow::key_arc))]
 fn arc_of(nexts: &Nexts, keys: &Keys, key: Key, s: u8) -> u16

@@ -19,12 +19,15 @@ pub const ALL_NEXTS: usize = JOURNALS * NEXTS;
 pub const STEPS: usize = STEP_CODES as usize;
 
 // The entries of k journals, one after the other.
+// Kept: one flat array with a number beside it, since `Tabled` and `NextsOf` say of one row of bytes where each entry stands.
 #[derive(Drop)]
 pub struct Nexts {
     pub entries: [u8; ALL_NEXTS],
     pub k: usize,
     pub ghost few: { k ≤ most_journals },
 }
+
+// Kept: 255 stands for a lost place, here and in `state.rt`, as in a row's bytes, which `next` and document 01 hold.
 
 // The entry one place further on, or lost behind the last.
 fn further_on(entries: &[u8], x: usize) -> u8

@@ -11,6 +11,8 @@ ghost use Rattle.records.specs.Sizes.{longest_word};
 pub use line::Line;
 use records::LONGEST_WORD;
 
+// Kept: each line says itself that it fits (`fits`), as it did: callers read that clause, and `Line` has no fact of its own.
+
 // First line: how many journals there are, and how many live rows.
 #[tactic(auto, using(crate::proofs::Spaced::spaced_std), unfolding(crate::specs::Text::first_line))]
 pub fn first_line(k: usize, rows: usize) -> Line
