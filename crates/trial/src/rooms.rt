@@ -3,6 +3,7 @@
 use crate::calls::Lent;
 use crate::command::{Book, Call, Command};
 use crate::stop::Stop;
+use list::LARGEST_OUTPUT;
 use records::{JOURNAL_BOOK, JOURNAL_RECORD, ROW_BOOK, ROW_RECORD, WORD_RECORD};
 use script::digest::digest;
 use std::io::Write;
@@ -13,7 +14,6 @@ const JOURNAL_ROOM: usize = JOURNAL_BOOK + JOURNAL_RECORD;
 const ROW_ROOM: usize = ROW_BOOK + ROW_RECORD;
 
 // The room of the output: two records more than the largest output, for the same two ends.
-const LARGEST_OUTPUT: usize = 65536;
 
 const OUTPUT_ROOM: usize = LARGEST_OUTPUT + 2 * WORD_RECORD;
 
