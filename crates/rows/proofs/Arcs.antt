@@ -4,14 +4,14 @@ use Prim.Native.Nat.{ℕ, ◌+◌, ◌≤◌, ◌<◌}
 use mathlib.Core.Path.{◌≡◌, sym, ◌∙◌}
 use mathlib.Core.Bool.{false, false≢true}
 use mathlib.Core.List.{List}
-use Rattle.std.specs.Prelude.{Some, Ok}
+use Rattle.std.specs.Prelude.{Some, None, Ok}
 use lib.ListN.{length, get_or, drop, drop_of_length-le}
 use lib.Dec.{leb}
 use borrow.Author.Tests.{leb-false}
 use Rattle.words.proofs.Test.{test}
 use Rattle.records.specs.Sizes.{most_rows}
 use Rattle.records.specs.RowBook.{arc_at}
-use Rattle.rows.specs.Walk.{bad_arc, along, walk_from}
+use Rattle.rows.specs.Walk.{Walked, bad_arc, along, walk_from}
 use Rattle.std.proofs.lemmas.List.{drop_more}
 use Rattle.rows.proofs.Steps.{step_code}
 
@@ -21,11 +21,21 @@ good_row b r t f =
     test (leb t r) (λ y. absurd (false≢true (sym f ∙ rw y)))
     (λ n. test (leb most_rows t) (λ y. absurd (false≢true (sym f ∙ rw (n, y)))) (λ m. leb-false most_rows t m))
 
+-- an arc 0 ends the walk in no row
+pub along_zero : (b : List ℕ) (r t : ℕ) (rest : Walked) → t ≡ 0 → along b r t rest ≡ Ok None
+unfolding along
+along_zero b r t rest e = rw e
+
 -- the walk at an index of the word
 pub from_step : (b w : List ℕ) (r i : ℕ) → i < length w
     → walk_from b r (drop i w) ≡ along b r (arc_at b r (get_or w i 0)) (walk_from b (arc_at b r (get_or w i 0)) (drop (i + 1) w))
 unfolding walk_from
 from_step b w r i h = rw (drop_more w i 0 h)
+
+-- the same of a walk that began in row q
+pub from_on_lem : (b w : List ℕ) (q r i t : ℕ) → i < length w → walk_from b q w ≡ walk_from b r (drop i w) → t ≡ arc_at b r (get_or w i 0)
+    → walk_from b q w ≡ along b r t (walk_from b t (drop (i + 1) w))
+from_on_lem b w q r i t h e g = e ∙ rw g (from_step b w r i h)
 
 pub from_end : (b w : List ℕ) (r i : ℕ) → length w ≤ i → walk_from b r (drop i w) ≡ Ok (Some r)
 unfolding walk_from
