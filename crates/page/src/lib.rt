@@ -12,13 +12,14 @@ use records::WORD_RECORD;
 
 // How many words were written, and whether a further one remains.
 // Kept: a flag beside a number, since neither says when the other counts: both are said of every page (`list_call`).
-#[derive(Clone, Copy)]
+#[derive(Clone, Copy, Debug, PartialEq, Eq)]
 pub struct Page {
     pub written: usize,
     pub more: bool,
 }
 
 // Writes a word's record into its own 16 bytes.
+// Kept: tried on an array, by `try_into().unwrap()` and `first_chunk_mut().unwrap()`, and the loop's proof didn't close: the output then isn't known.
 #[tactic(auto, unfolding(records::specs::StepBytes::step_bytes))]
 fn write_record(out: &mut [u8], w: &Word)
     requires { length out.old ≡ word_record_size }
@@ -41,7 +42,7 @@ pub fn write_page(search: &Search, first: Option<Word>, out: &mut [u8]) -> Page
 {
     let mut at = first;
     let room = out.len() / WORD_RECORD;
-    // Kept: the part is lent by its bounds, which is document 01's form; `chunks_exact_mut` is no plainer, since the page may end early.
+    // Kept: tried as `for part in out.chunks_exact_mut(..)`, and the proof didn't close: of the output behind that loop only its length is known.
     for i in 0..room {
         let Some(word) = at else {
             return Page {

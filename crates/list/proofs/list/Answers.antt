@@ -1,5 +1,6 @@
--- `list::list` meets its contract: the word record's size is tested first, and then the number is decided; then the first word that is due is sought, and the page from it on is the page of what
--- is due, since that is an end of the list by the table count, which on sound books is the list of the journals. Assumes nothing.
+-- `list::list` meets its contract: the word record's size is tested, and the number is decided; then the first word that is due is sought, and the
+-- page from it on is the page of what is due, since that is an end of the list by the table count, which on sound books is the list of the journals.
+-- Assumes nothing.
 use mathlib.Core.Path.{refl}
 use lib.ListN.{length}
 use borrow.Author.Tests.{ne_eqb}
