@@ -14,7 +14,6 @@ const JOURNAL_ROOM: usize = JOURNAL_BOOK + JOURNAL_RECORD;
 const ROW_ROOM: usize = ROW_BOOK + ROW_RECORD;
 
 // The room of the output: two records more than the largest output, for the same two ends.
-
 const OUTPUT_ROOM: usize = LARGEST_OUTPUT + 2 * WORD_RECORD;
 
 // The room of a book, and how many bytes of it are lent.
