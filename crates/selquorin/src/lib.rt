@@ -70,6 +70,7 @@ pub fn selquorin_check(journals: &[u8], rows: &[u8]) -> u64
 }
 
 // Lists words: from the start if `after` is 0, else after the word of the word record.
+// Kept: `after` is a number beside the word record, since C lends both.
 pub fn selquorin_list(
     journals: &[u8],
     rows: &[u8],
