@@ -1,4 +1,4 @@
--- A word is in where its first step is found and the rest is in what follows. By induction over the journal. Assumes nothing.
+-- A word that begins with a step is in a journal just where its other steps are in what stands behind the first such step. By induction over the journal. Assumes nothing.
 use Rattle.std.proofs.Common.{◌≡◌, ◌≢◌, ℕ, zero, suc, ◌+◌, ◌<◌, ◌≤◌, true, false, List, [], ◌∷◌, length, drop, get_or, refl, arith, add-one, ne_eqb, eq-eqb}
 use Rattle.words.specs.Words.{is_in}
 

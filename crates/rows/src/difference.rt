@@ -13,7 +13,7 @@ pub struct Spot {
     pub byte: usize,
 }
 
-// Kept: the nested walk, left by a label at the first difference, is a form of document 01.
+// Kept: the walk in two loops with a label to leave them by is a form of document 01.
 // Walks over the row records, and in each over its bytes, up to the first that differs from the picture; the answer is None where none does.
 #[tactic(auto, using(crate::proofs::Alike::alike))]
 pub fn first_difference(rows: &[u8; ROW_BOOK], picture: &[u8; ROW_BOOK]) -> Option<Spot>
