@@ -3,7 +3,7 @@
 ghost use Rattle.std.specs.Prelude.{◌≡◌, ◌≤◌, length};
 ghost use Rattle.records.specs.WordRecord.{word_of};
 ghost use Rattle.next_word.specs.Next.{table_of};
-ghost use Rattle.text.specs.Lines.{line_size};
+ghost use Rattle.text.specs.Lines.{line_of, line_size};
 ghost use Rattle.load.specs.Page.{page_lines};
 ghost use Rattle.load.specs.Program.{line_by};
 
@@ -21,8 +21,8 @@ const TEXT: usize = PAGE_WORDS * 96;
 // The line of the word in a word record, with the count that the table answers.
 #[tactic(auto, unfolding(next_word::specs::Next::table_of))]
 fn record_line(rows: &[u8], word_record: &[u8; WORD_RECORD]) -> Line
-    ensures value { result.text.bytes ≡ line_by (table_of rows.now) (word_of word_record.now) }
-    ensures fits { length result.text.bytes ≤ line_size }
+    ensures value { result ≡ line_of (line_by (table_of rows.now) (word_of word_record.now)) }
+    ensures fits { result.len ≤ line_size }
 {
     let n = usize::from(word_record[0]);
     let word = &word_record[1..1 + n.min(LONGEST_WORD)];

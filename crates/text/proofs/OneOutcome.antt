@@ -1,4 +1,5 @@
--- No second line fits what a function promises: the promise is an equation for the whole line, which is its text. Assumes nothing.
+-- No second line fits what a function promises: the promise is an equation for the whole line, the bytes behind its text
+-- with it. Assumes nothing.
 use Prim.Native.Nat.{ℕ}
 use mathlib.Core.Path.{◌≡◌, sym, ◌∙◌}
 use mathlib.Core.Bool.{cond}
@@ -6,11 +7,12 @@ use mathlib.Core.List.{List, []}
 use lib.ListN.{length}
 use lib.Dec.{leb}
 use Rattle.text.specs.declared.line.Line.{Line}
+use Rattle.text.specs.Lines.{line_of}
 use Rattle.text.specs.Text.{first_line, word_line, last_line, refused_entry_line, refused_ask_line}
 
--- two lines that hold the text hold the same
+-- two lines that hold the text, zeros behind it, are equal
 abbrev pub OneLine : List ℕ → Type 0
-OneLine t = (l m : Line) → l.text.bytes ≡ t → m.text.bytes ≡ t → l.text.bytes ≡ m.text.bytes
+OneLine t = (l m : Line) → l ≡ line_of t → m ≡ line_of t → l ≡ m
 
 -- of every text
 one_line : (t : List ℕ) → OneLine t

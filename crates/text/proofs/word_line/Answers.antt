@@ -1,10 +1,10 @@
-use Prim.Native.Nat.{◌<◌}
+use Prim.Native.Nat.{◌^◌, ◌<◌}
 use mathlib.Core.List.{append-nil}
 use lib.ListN.{length, get_or}
 use native.Mathlib.Omega.{arith}
 use Rattle.text.specs.Text.{decimal}
 use Rattle.text.proofs.Decimals.{as_std}
-use Rattle.text.proofs.Spaced.{spaced_more}
+use Rattle.text.proofs.Spaced.{spaced_std, spaced_more}
 use Rattle.text.proofs.word_line.Goals as goal
 
 pub loop-step-init : goal.loop-step-init
@@ -16,4 +16,8 @@ loop-step-preserved c =
     let a = c.args in
     let w = a.word.now in
     let b : get_or w i 0 < 256 = omega (arith, c.type_inv.word i) in
-    (omega arith, rw (spaced_more (decimal (length w)) a.count w i (omega arith) (omega arith)) (rw c.loop-step.invariant.1 at c.spaced-line-in-loop-step.ensures.text))
+    let x : get_or w i 0 < 2 ^ 64 = omega arith in (
+      omega arith,
+      rw (spaced_more (decimal (length w)) a.count w i (omega arith), spaced_std (get_or w i 0) x)
+          (c.spaced-line-in-loop-step.ensures.longer.text _ c.loop-step.invariant.1),
+    )

@@ -5,7 +5,8 @@ use mathlib.Core.Path.{◌≡◌}
 use mathlib.Core.List.{◌∷◌, ◌++◌}
 use lib.ListN.{length, take}
 use Rattle.text.specs.Text.{decimal, spaced}
+use Rattle.text.specs.Lines.{line_of}
 use Rattle.text.proofs.word_line.Given as goal
 
 abbrev pub invariant-loop-step : goal.invariant-loop-step
-invariant-loop-step l = (length l.line.text.bytes ≤ 20 + 4 * (l.step-index + 1)) × (l.line.text.bytes ≡ decimal (length l.word) ++ spaced (l.count ∷ take l.step-index l.word))
+invariant-loop-step l = (l.line.len ≤ 20 + 4 * (l.step-index + 1)) × (l.line ≡ line_of (decimal (length l.word) ++ spaced (l.count ∷ take l.step-index l.word)))

@@ -7,6 +7,7 @@ use native.Mathlib.Omega.{arith}
 use Rattle.std.specs.Simd.{first_chunks}
 use Rattle.records.specs.WordRecord.{word_of}
 use Rattle.next_word.specs.Next.{table_of}
+use Rattle.text.proofs.TextOf.{line_text}
 use Rattle.load.specs.Page.{page_lines}
 use Rattle.load.specs.Program.{line_by}
 use Rattle.load.proofs.PageLines.{lines_more, record_at}
@@ -27,6 +28,6 @@ loop-word_record-preserved c =
     let cut : get_or (take a.written (first_chunks 16 n page)) i [] ≡ take 16 (drop (16 * i) page) =
     record_at 16 n a.written i page (omega (arith, size)) (omega (arith, length-take a.written c.as_chunks.result.0.now)) in
     let line : c.as_bytes.result.now ≡ line_by (table_of a.rows.now) (word_of (take 16 (drop (16 * i) page))) =
-    c.as_bytes.ensures.value ∙ rw (c.as_chunks.ensures.front, cut) at c.record_line-line.ensures.value in
+    c.as_bytes.ensures.value ∙ line_text _ _ (rw (c.as_chunks.ensures.front, cut) at c.record_line-line.ensures.value) in
     let put : c.try_extend_from_slice.new.self.items ≡ l.text.items ++ c.as_bytes.result.now = search rules in
     (search rules, rw (lines_more a.rows.now i page, put, line, l.invariant.1))
