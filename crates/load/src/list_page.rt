@@ -1,6 +1,6 @@
 // The text of a page: the lines of its words, one behind the other.
 
-ghost use Rattle.std.specs.Prelude.{◌≡◌, ◌≤◌, length};
+ghost use Rattle.std.specs.Prelude.{◌≡◌, ◌*◌, ◌≤◌, length};
 ghost use Rattle.records.specs.WordRecord.{word_of};
 ghost use Rattle.next_word.specs.Next.{table_of};
 ghost use Rattle.text.specs.Lines.{line_of, line_size};
@@ -33,7 +33,8 @@ fn record_line(rows: &[u8], word_record: &[u8; WORD_RECORD]) -> Line
 // The text of the first words of a page, a line each.
 pub(crate) fn page_text(rows: &[u8], page: &[u8; PAGE], written: usize) -> ArrayVec<u8, TEXT>
     requires { written ≤ 1024 }
-    ensures { result.items ≡ page_lines rows.now written page.now }
+    ensures lines { result.items ≡ page_lines rows.now written page.now }
+    ensures room { length result.items ≤ line_size * written }
 {
     let mut text = ArrayVec::new();
     let (word_records, _) = page.as_chunks::<WORD_RECORD>();
