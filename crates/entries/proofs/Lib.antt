@@ -1,3 +1,4 @@
+pub mod NotCode
 pub mod Reading
 pub mod Meaning
 pub mod Worked

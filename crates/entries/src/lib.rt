@@ -2,7 +2,9 @@
 #![tactic(auto)]
 
 mod entry;
+mod read;
 mod reader;
 
 pub use entry::{Entry, entry_of};
+pub use read::{Read, read_entry};
 pub use reader::{LoneByte, Reader};

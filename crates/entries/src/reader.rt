@@ -1,7 +1,8 @@
-// The reader: the bytes that were read and a position in them. It gives the entries one by one and moves behind each, so
-// nobody else knows how long an entry is.
+// The reader: the bytes that were read and a position in them. It gives the entries one by one and moves behind each.
 
 ghost use Rattle.std.specs.Prelude.{◌≤◌, length};
+
+use crate::read::{Read, read_entry};
 
 // The bytes end in half an entry.
 #[derive(Clone, Copy, Debug, PartialEq, Eq)]
@@ -17,10 +18,10 @@ pub struct Reader<'a> {
 
 impl<'a> Reader<'a> {
     ghost use Rattle.std.specs.Prelude.{◌≡◌};
-    ghost use Rattle.entries.specs.Reading.{entries_in, read_at, entries_left};
+    ghost use Rattle.entries.specs.Reading.{entries_in, entries_from, entries_left};
 
     // A reader at the first byte.
-    #[tactic(auto, unfolding(crate::specs::Reading::read_at))]
+    #[tactic(auto, unfolding(crate::specs::Reading::entries_from))]
     pub fn new(bytes: &'a [u8]) -> Reader<'a>
         ensures { entries_left result ≡ entries_in bytes.now }
     {
@@ -28,9 +29,9 @@ impl<'a> Reader<'a> {
     }
 
     // A reader at a position of the bytes, or behind the last byte where that comes first.
-    #[tactic(auto, using(std::proofs::lemmas::List::drop_min), unfolding(crate::specs::Reading::read_at))]
+    #[tactic(auto, using(std::proofs::lemmas::List::drop_min), unfolding(crate::specs::Reading::entries_from))]
     pub fn at(bytes: &'a [u8], at: usize) -> Reader<'a>
-        ensures { entries_left result ≡ read_at bytes.now at }
+        ensures { entries_left result ≡ entries_from bytes.now at }
     {
         Reader {
             bytes,
@@ -50,18 +51,18 @@ impl Iterator for Reader<'_> {
 
     ghost remaining = { item_count entries_left };
 
-    #[tactic(auto, using(crate::proofs::Reading::none_read, crate::proofs::Reading::lone_read, crate::proofs::Reading::entry_read))]
+    #[tactic(auto, using(crate::proofs::Reading::none_first, crate::proofs::Reading::lone_first, crate::proofs::Reading::entry_first, crate::proofs::Reading::behind_within))]
     fn next(&mut self) -> Option<Result<(u8, u8), LoneByte>> {
-        match &self.bytes[self.at..] {
-            [] => None,
-            [_] => {
-                self.at += 1;
+        match read_entry(self.bytes, self.at) {
+            Read::Entry(number, step, behind) => {
+                self.at = behind;
+                Some(Ok((number, step)))
+            }
+            Read::Lone => {
+                self.at = self.bytes.len();
                 Some(Err(LoneByte))
             }
-            [number, step, ..] => {
-                self.at += 2;
-                Some(Ok((*number, *step)))
-            }
+            Read::End => None,
         }
     }
 }
