@@ -1,7 +1,7 @@
 -- Opening and appending by their cases, and both as a whole: refused, or done. Assumes nothing.
 use Prim.Native.Nat.{ℕ}
 use native.Mathlib.Omega.{arith}
-use mathlib.Core.Path.{◌≡◌, ap, ◌∙◌}
+use mathlib.Core.Path.{◌≡◌, sym, ap, ◌∙◌}
 use mathlib.Core.Bool.{false}
 use mathlib.Core.List.{List}
 use lib.ListN.{length}
@@ -29,19 +29,28 @@ module _ (jb rb : List ℕ) (s : ℕ) where
     unfolding open_append
     opening_done z = rw (← o, eq-eqb n 0 z)
 
+  module _ (n : ℕ) (aj ar : List ℕ) (a : after n aj ar ≡ open_append jb rb s) where
+    -- both as a whole: a refusal leaves the books
+    pub whole_refused : (n ≡ 0 → ⊥) → after n jb rb ≡ open_append_whole jb rb s
+    unfolding open_append_whole
+    whole_refused h = rw (← a, refused n aj jb h, refused n ar rb h)
+
+    pub whole_done : n ≡ 0 → after 0 aj ar ≡ open_append_whole jb rb s
+    unfolding open_append_whole
+    whole_done z = rw (← a, z)
+
   -- where opening is refused
   pub whole_unopened : (n : ℕ) → (n ≡ 0 → ⊥) → after n jb rb ≡ open_call jb rb → open_append_whole jb rb s ≡ after n jb rb
-  unfolding open_append_whole
-  whole_unopened n h o = rw (← opening_refused n jb rb o h, refused n jb jb h, refused n rb rb h)
+  whole_unopened n h o = sym (whole_refused n jb rb (opening_refused n jb rb o h) h)
 
   -- wrong sizes are a refusal of opening
-  whole_size : right_sizes jb rb ≡ false → open_append_whole jb rb s ≡ after 1 jb rb
+  pub whole_size : right_sizes jb rb ≡ false → after 1 jb rb ≡ open_append_whole jb rb s
   whole_size f =
       let one : 1 ≡ first (open_refusals jb rb) = rw f in
-      whole_unopened 1 (λ z. omega arith) (open_refused jb rb 1 one (λ z. omega arith))
+      sym (whole_unopened 1 (λ z. omega arith) (open_refused jb rb 1 one (λ z. omega arith)))
 
   pub whole_journals : (length jb ≡ 4096 → ⊥) → open_append_whole jb rb s ≡ after 1 jb rb
-  whole_journals h = whole_size (rw (ne_eqb (length jb) 4096 h))
+  whole_journals h = sym (whole_size (rw (ne_eqb (length jb) 4096 h)))
 
   pub whole_rows : (length rb ≡ 64000 → ⊥) → open_append_whole jb rb s ≡ after 1 jb rb
-  whole_rows h = whole_size (rw (ne_eqb (length rb) 64000 h, and-false (eqb (length jb) 4096)))
+  whole_rows h = sym (whole_size (rw (ne_eqb (length rb) 64000 h, and-false (eqb (length jb) 4096))))

@@ -1,5 +1,7 @@
 pub mod OneOutcome
 pub mod EntryCases
+pub mod Entering
+pub mod TakeCases
 pub mod Entries
 pub mod FeedCases
 pub mod Numbers
