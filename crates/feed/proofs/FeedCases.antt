@@ -101,7 +101,7 @@ module _ (i : ℕ) (jb rb : List ℕ) where
         (sym e ∙ ap (λ (u : Taken). took u nj nr) f)
         (read_leads (read_at es at) (read_stands es at))
 
-    -- and what taking leaves that a reader at that byte has left
+    -- and what taking one by one leaves where a reader stands at that byte
     pub reader_leads : (t : Taken) (nj nr : List ℕ) → took t nj nr ≡ take_at jb rb es at → Leads i es at (take_from i jb rb (entries_from es at)) t nj nr
     unfolding entries_from
     reader_leads t nj nr e = subst (λ (f : AfterFeeding). Leads i es at f t nj nr) (feeds i jb rb (drop at es)) (taken_leads t t refl nj nr e)

@@ -30,7 +30,7 @@ module _ (jb rb es : List ℕ) (at : ℕ) where
     pub take_done : m ≡ 0 → took (Next next) nj nr ≡ take_at jb rb es at
     take_done z = ap (λ (k : ℕ). took (came_of k next) nj nr) (sym z) ∙ came
 
-  -- so is what the reader gives of it
+  -- so is what the code takes: it is handed what a reader gives there
   pub take_call_entry : (n s next : ℕ) → Entry n s next ≡ read_at es at
       → took (came_of (take_call jb rb (Ok (n, s))).number next) (take_call jb rb (Ok (n, s))).journals (take_call jb rb (Ok (n, s))).rows ≡ take_at jb rb es at
   take_call_entry n s next r = take_read_is (Entry n s next) r
