@@ -118,13 +118,23 @@ onto_cases : (s : ℕ) (ds : List (List ℕ)) (d : List ℕ) → Memᴰ d (onto 
 onto_cases s (v ∷ ds) d m = inr (v, Memᴰ.head refl, Memᴰ.eq_of_singleton m)
 onto_cases s [] d m = test (ltb s 15) (λ t. inl (ltb-true s 15 t, Memᴰ.eq_of_singleton (rw t at m))) (λ n. absurd (Memᴰ.not-nil (rw n at m)))
 
+-- a word moves to a word, and to none that is longer
+pub climbed_word : (c d : List ℕ) → IsWord c → Memᴰ d (climbed c) → IsWord d × (length d ≤ length c)
+unfolding climbed
+climbed_word [] d k m = absurd (Memᴰ.not-nil m)
+climbed_word (s ∷ c) d k m = go (λ v i. climbed_word c v k.1 i) (onto_cases s (climbed c) d m)
+  where
+    go : ((v : List ℕ) → Memᴰ v (climbed c) → IsWord v × (length v ≤ length c)) → Onto s (climbed c) d → IsWord d × (length d ≤ suc (length c))
+    go ih (inl p) = rw p.1 ((omega arith, tt), omega arith)
+    go ih (inr p) = let r = ih p.0 p.1 in rw p.2 ((k.0, r.0), omega arith)
+
 -- by how much the steps of a word can still be raised
 abbrev pub slack : List ℕ → ℕ
 slack [] = 0
 slack (s ∷ w) = 15 - s + slack w
 
 -- every move leaves less of it
-climbed_less : (c d : List ℕ) → Memᴰ d (climbed c) → slack d < slack c
+pub climbed_less : (c d : List ℕ) → Memᴰ d (climbed c) → slack d < slack c
 unfolding climbed
 climbed_less [] d m = absurd (Memᴰ.not-nil m)
 climbed_less (s ∷ c) d m = go (λ v i. climbed_less c v i) (onto_cases s (climbed c) d m)

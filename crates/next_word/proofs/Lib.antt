@@ -1,4 +1,5 @@
 pub mod FromOn
 pub mod Climb
 pub mod WordMoves
+pub mod WordBytes
 pub mod Searching

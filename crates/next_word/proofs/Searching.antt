@@ -12,7 +12,8 @@ use Rattle.words.specs.Words.{IsWord}
 use Rattle.next_word.specs.Searching.{words_of}
 use Rattle.next_word.specs.Next.{climbed, from_on, from_there, table_of}
 use Rattle.next_word.specs.declared.search.Search.{Search}
-use Rattle.next_word.proofs.Climb.{climb_skips, climb_after, here}
+use Rattle.next_word.proofs.Climb.{climb_skips, here}
+use Rattle.next_word.proofs.WordMoves.{climbed_past}
 
 module _ (s : Search) where
   module _ (w : List ℕ) (ds : List (List ℕ)) (to : ds ≡ climbed w) where
@@ -27,7 +28,7 @@ module _ (s : Search) where
 
     -- and after a word that has no room for a further step too
     pub behind : s.limit ≤ length w → past w (words_of s) ≡ from_there ds (words_of s)
-    behind h = climb_after (table_of s.rows.now) s.falls s.quorum s.limit w h ∙ from_to
+    behind h = climbed_past (table_of s.rows.now) s.falls s.quorum s.limit w ds h to
 
   -- a word that reaches the quorum is the first from itself on
   pub itself : (w : List ℕ) → IsWord w → length w ≤ s.limit → true ≡ leb s.quorum (table_of s.rows.now w) → take 1 (from_on w (words_of s)) ≡ w ∷ []
