@@ -5,7 +5,7 @@ use native.Mathlib.Omega.{arith}
 use mathlib.Core.Path.{◌≡◌, refl, sym, ap, ◌∙◌}
 use mathlib.Core.Bool.{false}
 use mathlib.Core.List.{List, [], ◌∷◌, ◌++◌, append_assoc}
-use lib.ListN.{length, take, drop, length-append}
+use lib.ListN.{length, take, drop, length-append, length-drop}
 use lib.Seq.{take_at, drop_at, take_all, take-add, drop-drop, length-take-le}
 use lib.Dec.{ltb}
 use borrow.Author.Tests.{lt-ltb, le-ltb}
@@ -34,9 +34,13 @@ module _ (d : List (List ℕ)) (out₀ : List ℕ) where
   page_start m e = record { passed = omega arith; within = omega arith; next = e; wide = refl; wrote = refl }
 
   module _ {out : List ℕ} {m : Option (List ℕ)} {i : ℕ} (p : PageAt out m i) where
+    -- the output keeps its length
+    pub page_length : length out ≡ length out₀
+    page_length = omega (arith, p.within, ap length p.wrote, length-append (flat word_record (take i d)) (drop (16 * i) out₀), p.wide, length-drop (16 * i) out₀)
+
     -- a word that was found is the next one
-    word_next : (x : List ℕ) → m ≡ Some x → x ∷ [] ≡ take 1 (drop i d)
-    word_next x f = rw f at p.next
+    pub page_word : (x : List ℕ) → m ≡ Some x → x ∷ [] ≡ take 1 (drop i d)
+    page_word x f = rw f at p.next
 
     -- and with it there is one word more
     take_more : (x : List ℕ) → x ∷ [] ≡ take 1 (drop i d) → take (i + 1) d ≡ take i d ++ (x ∷ [])
@@ -48,7 +52,7 @@ module _ (d : List (List ℕ)) (out₀ : List ℕ) where
         → (part : List ℕ) → part ≡ word_record x → length part ≡ 16
         → PageAt (put_mid (16 * i) (16 * i + 16 - 16 * i) out part) m' (i + 1)
     page_turn x f w l a e m' q part v z =
-        let t = word_next x f in
+        let t = page_word x f in
         let r = next_in d i x t in
         let s = take_more x t in
         let old : List ℕ = flat word_record (take i d) in
@@ -87,7 +91,7 @@ module _ (d : List (List ℕ)) (out₀ : List ℕ) where
           (
             elim m as (λ n. m ≡ n → is_some n ≡ ltb i (length d)) [
               | None ↦ λ f. sym (le-ltb i (length d) (none_in d i (rw f at p.next)))
-              | Some x ↦ λ f. sym (lt-ltb i (length d) (next_in d i x (word_next x f)).0)
+              | Some x ↦ λ f. sym (lt-ltb i (length d) (next_in d i x (page_word x f)).0)
             ] refl,
             w.1,
           ),
