@@ -3,7 +3,7 @@
 ghost use Rattle.std.specs.Prelude.{◌≡◌, true, [], ◌∷◌, ◌++◌, ◌+◌, ◌-◌, ◌≤◌, ◌<◌, length, take, slice_get, slice_index, option_to_list, IfSome};
 ghost use Rattle.next_word.specs.Next.{climbed};
 ghost use Rattle.records.specs.Sizes.{longest_word};
-ghost use Rattle.records.specs.WordRecord.{word_form, word_of};
+ghost use Rattle.records.specs.WordRecord.{word_form, word_of, word_record};
 ghost use Rattle.words.specs.Limits.{step_codes};
 ghost use Rattle.words.specs.Words.{IsWord};
 
@@ -67,6 +67,14 @@ impl Word {
     {
         let n = usize::from(self.bytes[0]);
         &self.bytes[1..=n]
+    }
+
+    // The word's record.
+    #[tactic(auto, using(crate::proofs::WordBytes::record_back))]
+    pub fn as_record(&self) -> &[u8; WORD_RECORD]
+        ensures { result.now ≡ word_record self.now }
+    {
+        &self.bytes
     }
 
     // The word with step 0 behind it: the first of its extensions. The zero stands there already.

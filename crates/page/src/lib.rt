@@ -20,16 +20,11 @@ pub struct Page {
 
 // Writes a word's record into its own 16 bytes.
 // Kept: tried on an array, by `try_into().unwrap()` and `first_chunk_mut().unwrap()`, and the loop's proof didn't close: the output then isn't known.
-#[tactic(auto, unfolding(records::specs::StepBytes::step_bytes))]
 fn write_record(out: &mut [u8], w: &Word)
     requires { length out.old ≡ word_record_size }
     ensures { out.new ≡ word_record w.now }
 {
-    let steps = w.steps();
-    let n = steps.len();
-    out.fill(0);
-    out[0] = n as u8;
-    out[1..=n].copy_from_slice(steps);
+    out.copy_from_slice(w.as_record());
 }
 
 // Writes the words of the list from the first one on, as many as fit or as remain.
