@@ -1,6 +1,9 @@
 // Records as they are printed. Of a row record its places, the arcs that aren't 0 as STEP:ROW, its count, and what stands behind;
 // of a word record its length and its steps.
 
+ghost use Rattle.std.specs.Prelude.{◌≡◌, ◌+◌, ◌≤◌, length, take, slice_index};
+ghost use Rattle.records.specs.Sizes.{word_record_size};
+
 use crate::print::Bytes;
 use records::{ARCS, COUNT, ROW_RECORD, WORD_RECORD};
 use std::fmt;
@@ -42,7 +45,10 @@ impl fmt::Display for Row<'_> {
 }
 
 // The length and the steps of a word record; all of it if the length is too large.
-fn used(word: &[u8; WORD_RECORD]) -> &[u8] {
+fn used(word: &[u8; WORD_RECORD]) -> &[u8]
+    ensures within { length result.now ≤ word_record_size }
+    ensures front { result.now ≡ take (slice_index word.now 0 + 1) word.now }
+{
     let length = usize::from(word[0]);
     word.get(..=length).unwrap_or(word)
 }

@@ -121,13 +121,19 @@ impl<'a> Command<'a> {
         }
     }
 
-    // The command of a line, whose bytes are put where there is room for them. None if the line is no command.
-    pub(crate) fn read(line: &[u8], bytes: &'a mut Numbers<u8>) -> Option<Self> {
+    // The command of a line, whose numbers and bytes are put where there is room for them, in the place of those of the line
+    // before. None if the line is no command.
+    pub(crate) fn read(
+        line: &[u8],
+        numbers: &mut Numbers<usize>,
+        bytes: &'a mut Numbers<u8>,
+    ) -> Option<Self> {
+        numbers.clear();
+        bytes.clear();
         let mut words = line.split(|byte| *byte == b' ');
         let name = words.next()?;
-        let mut numbers = Numbers::new();
         for word in words {
-            number::read(word, &mut numbers)?;
+            number::read(word, numbers)?;
         }
         let (asked, rest) = numbers.as_slice().split_at_checked(heads(name))?;
         number::to_bytes(rest, bytes)?;

@@ -27,22 +27,31 @@ fn is_comment(line: &[u8]) -> bool {
     matches!(line, [] | [b'#', ..])
 }
 
-// Carries out one line.
-fn run_line<W: Write>(out: &mut W, line: &[u8], rooms: &mut Rooms) -> Result<(), Stop> {
+// Carries out one line, whose numbers and bytes are put where there is room for them.
+fn run_line<W: Write>(
+    out: &mut W,
+    line: &[u8],
+    numbers: &mut Numbers<usize>,
+    bytes: &mut Numbers<u8>,
+    rooms: &mut Rooms,
+) -> Result<(), Stop> {
     out.write_all(line)?;
     if !is_comment(line) {
-        let mut bytes = Numbers::new();
-        let command = Command::read(line, &mut bytes).ok_or(Stop::Broken)?;
+        let command = Command::read(line, numbers, bytes).ok_or(Stop::Broken)?;
         rooms.carry_out(out, command)?;
     }
     out.write_all(b"\n")?;
     Ok(())
 }
 
-// Carries out the lines of a script, up to the first that is none.
+// Carries out the lines of a script, up to the first that is none. The room for a line's numbers, 72 KiB, is made once and not for
+// each line.
 fn run_lines<W: Write>(out: &mut W, script: &[u8], rooms: &mut Rooms) -> Result<(), Stop> {
+    let mut numbers = Numbers::new();
+    let mut bytes = Numbers::new();
     for line in script.split_inclusive(|byte| *byte == b'\n') {
-        run_line(out, line.strip_suffix(b"\n").unwrap_or(line), rooms)?;
+        let line = line.strip_suffix(b"\n").unwrap_or(line);
+        run_line(out, line, &mut numbers, &mut bytes, rooms)?;
     }
     Ok(())
 }
