@@ -35,6 +35,21 @@ rank_most key [] = omega arith
 rank_most key (x ∷ l) =
     test (before x key) (λ t. omega (arith, rank_pass key x l t, rank_most key l)) (λ f. omega (arith, rank_stop key x l f))
 
+-- a key that doesn't come before it bounds the rank from above
+pub rank_below : (key : List ℕ) (l : List (List ℕ)) (i : ℕ) → i < length l → before (get_or l i []) key ≡ false → rank_of key l ≤ i
+rank_below key [] i h f = absurd (omega arith)
+rank_below key (x ∷ l) zero h f = omega (arith, rank_stop key x l f)
+rank_below key (x ∷ l) (suc i) h f =
+    test (before x key) (λ t. omega (arith, rank_pass key x l t, rank_below key l i (omega arith) f)) (λ g. omega (arith, rank_stop key x l g))
+
+-- in an ascending list a key that comes before it bounds the rank from below
+pub rank_above : (key : List ℕ) (l : List (List ℕ)) (i : ℕ) → i < length l → Ascending l → before (get_or l i []) key ≡ true → i < rank_of key l
+rank_above key [] i h a t = absurd (omega arith)
+rank_above key (x ∷ l) zero h a t = omega (arith, rank_pass key x l t)
+rank_above key (x ∷ l) (suc i) h a t =
+    let first = before_trans x (get_or l i []) key (a.0 (get_or l i []) (item_mem l i [] (omega arith))) t in
+    omega (arith, rank_pass key x l first, rank_above key l i (omega arith) a.1 t)
+
 -- in an ascending list none that comes before the key stands behind one that doesn't
 pub parted : (key : List ℕ) (l : List (List ℕ)) → Ascending l → (i j : ℕ) (d : List ℕ) → i ≤ j → j < length l
     → before (get_or l j d) key ≡ true → before (get_or l i d) key ≡ true

@@ -1,7 +1,7 @@
 // The keys of the live states, of sixteen bytes each: ascending, none twice. A key's place is found by halving.
 #![tactic(auto)]
 
-ghost use Rattle.std.specs.Prelude.{◌≡◌, ◌+◌, ◌≤◌, ◌<◌, [], length, slice_index_or};
+ghost use Rattle.std.specs.Prelude.{◌≡◌, ◌∷◌, ◌++◌, ◌+◌, ◌≤◌, ◌<◌, [], length, take, drop, slice_index_or};
 ghost use Rattle.records.specs.Sizes.{most_rows};
 ghost use Rattle.words.specs.Order.{before};
 ghost use Rattle.words.specs.Picture.{insert};
@@ -59,6 +59,13 @@ impl Keys {
         }
     }
 
+    // Takes all keys out.
+    pub fn clear(&mut self)
+        ensures { self.new ≡ [] }
+    {
+        self.held.clear();
+    }
+
     // How many keys there are.
     pub fn len(&self) -> usize
         ensures many { result ≡ length self.now }
@@ -85,6 +92,14 @@ impl Keys {
             .partition_point(|held| comes_before(held, &key))
     }
 
+    // Puts a key behind the first p keys, where the keys stay keys with it there.
+    fn open_at(&mut self, p: usize, key: Key)
+        requires { (p ≤ length self.old) × (length self.old ≤ most_rows) × AreKeys (take p self.old ++ key ∷ drop p self.old) }
+        ensures { self.new ≡ take p self.old ++ key ∷ drop p self.old }
+    {
+        self.held.insert(p, key);
+    }
+
     // Puts a key among the others, in order, unless it is there.
     pub fn insert(&mut self, key: Key)
         requires { length self.old ≤ most_rows }
@@ -92,7 +107,7 @@ impl Keys {
     {
         let p = self.rank(key);
         if self.held.get(p) != Some(&key) {
-            self.held.insert(p, key);
+            self.open_at(p, key);
         }
     }
 }

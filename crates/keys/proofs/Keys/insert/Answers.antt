@@ -1,30 +1,25 @@
 -- `Keys::insert` meets its contract. The key at the rank is the only one that can be the new one. If it is, the keys stay; if it isn't, or there is none,
 -- the key goes in there. Assumes nothing.
 use native.Mathlib.Omega.{arith}
-use mathlib.Core.Path.{◌≡◌, sym, ◌∙◌}
-use Rattle.std.proofs.Common.{rules}
-use Rattle.words.specs.Picture.{insert}
+use mathlib.Core.Path.{sym, ◌∙◌}
 use Rattle.keys.proofs.Compared.{found_there, not_there}
 use Rattle.keys.proofs.Ranks.{insert_old, insert_new, rank_most, put_in}
 use Rattle.keys.proofs.Keys.insert.Goals as goal
 
-module _ (c : goal.After-insert) where
-  goes_in : c.insert.new.self.items ≡ insert c.args.key c.args.self.now
-  goes_in =
-      let absent = not_there _ _ _ c.get.result c.get.ensures.lookup.3 (sym c.ne.ensures ∙ c.if-ne.true) in
-      c.insert.ensures.items
-      ∙ rw c.self.view_is (sym (insert_new c.args.key c.args.self.now c.rank-p.result c.rank-p.ensures.place (rw (c.deref.ensures.0, c.self.view_is) at absent)))
-
-pub insert-requires : goal.insert-requires
-insert-requires c =
-    let rank = rank_most c.args.key c.args.self.now in
-    rw c.self.view_is (search rules, (omega (arith, c.rank-p.ensures.place), omega arith))
-
-pub invariant_of-self : goal.invariant_of-self
-invariant_of-self c = rw (goes_in c) (put_in c.args.key c.args.self.now (omega arith) (rw c.self.view_is at c.self.invariant))
+pub open_at-requires : goal.open_at-requires
+open_at-requires c =
+    let absent = not_there _ _ _ c.get.result c.get.ensures.lookup.3 (sym c.ne.ensures ∙ c.if-ne.true) in
+    let opened = insert_new c.args.key c.args.self.now c.rank-p.result c.rank-p.ensures.place (rw (c.deref.ensures.0, c.self.view_is) at absent) in (
+      omega (arith, c.rank-p.ensures.place, rank_most c.args.key c.args.self.now),
+      c.requires,
+      rw (← opened) (put_in c.args.key c.args.self.now (omega arith) (rw c.self.view_is at c.self.invariant)),
+    )
 
 pub returns-then-ne : goal.returns-then-ne
-returns-then-ne c = goes_in c
+returns-then-ne c =
+    let absent = not_there _ _ _ c.get.result c.get.ensures.lookup.3 (sym c.ne.ensures ∙ c.if-ne.true) in
+    let opened = insert_new c.args.key c.args.self.now c.rank-p.result c.rank-p.ensures.place (rw (c.deref.ensures.0, c.self.view_is) at absent) in
+    c.open_at.ensures ∙ sym opened
 
 pub returns-else-ne : goal.returns-else-ne
 returns-else-ne c =
