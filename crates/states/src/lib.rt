@@ -5,7 +5,7 @@
 mod nexts;
 mod state;
 
-ghost use Rattle.std.specs.Prelude.{◌≡◌, [], ◌+◌, ◌≤◌, ◌<◌, length, IsSome};
+ghost use Rattle.std.specs.Prelude.{◌≡◌, ◌+◌, ◌≤◌, ◌<◌, length, IsSome};
 ghost use Rattle.words.specs.Limits.{step_codes};
 ghost use Rattle.records.specs.Sizes.{most_rows};
 ghost use Rattle.states.specs.Table.{AnyTabled};
@@ -44,13 +44,13 @@ fn grow_row(nexts: &Nexts, keys: &mut Keys, i: usize) -> Option<()>
     Some(())
 }
 
-// Puts in the keys of all live states, where there are no keys yet; `None` if they are more than there are rows. The keys grow as they
-// are walked, so the range is that of all rows there can be, and the walk ends behind the last key. They are lent, since a call that
-// hands 16 KB back needs them twice on the stack.
+// Finds the keys of all live states, in the place of the keys that there were; `None` if they are more than there are rows. The keys
+// grow as they are walked, so the range is that of all rows there can be, and the walk ends behind the last key. They are lent, since a
+// call that hands 16 KB back needs them twice on the stack.
 pub fn find_states(nexts: &Nexts, keys: &mut Keys) -> Option<()>
-    requires { keys.old ≡ [] }
     ensures { AnyTabled nexts.now (λ js. Found js result keys.new) }
 {
+    keys.clear();
     if nexts.k == 0 {
         return Some(());
     }
