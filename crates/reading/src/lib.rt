@@ -54,9 +54,19 @@ pub fn open_journals(journals: &[u8]) -> Result<usize, Refused>
     Ok(journal::open_count(book.bytes))
 }
 
-// The 64 bytes of a row, handed back where they stand in the lent book.
+// The 64 bytes of a row, handed back where they stand in the lent book; none of them where the row's number is refused.
+pub fn row_record(rows: &[u8], row: usize) -> &[u8]
+    ensures { result.now ≡ row_record_call rows.now row }
+{
+    match read_row_record(rows, row) {
+        Ok(record) => record,
+        Err(_) => &rows[..0],
+    }
+}
+
+// The same bytes as an array, or what the row record is refused with.
 #[tactic(auto, unfolding(books::specs::RowRecord::row_record_call, books::specs::RowRecord::row_record_number_call))]
-pub fn row_record(rows: &[u8], row: usize) -> Result<&[u8; ROW_RECORD], Refused>
+pub fn read_row_record(rows: &[u8], row: usize) -> Result<&[u8; ROW_RECORD], Refused>
     ensures number { number_in result ≡ row_record_number_call rows.now row }
     ensures bytes { MatchResult result (λ r. r.now ≡ row_record_call rows.now row) (λ _. row_record_call rows.now row ≡ []) }
 {

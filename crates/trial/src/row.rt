@@ -7,13 +7,14 @@ use std::io;
 use std::io::Write;
 
 impl Lent<'_> {
-    // Prints the number of the call, and the row that it gives back; a refusal gives none.
+    // Prints the number of the call, and the part that it gives back.
     pub(crate) fn row<W: Write>(&self, out: &mut W, row: usize) -> io::Result<()> {
         let number = number_in(&reading::row_record_number(self.rows, row));
         write!(out, " -> {number}")?;
-        match reading::row_record(self.rows, row) {
-            Ok(record) => write!(out, "{}", Row(record)),
-            Err(_) => write!(out, ", length 0"),
+        let given = reading::row_record(self.rows, row);
+        match given.as_array() {
+            Some(record) => write!(out, "{}", Row(record)),
+            None => write!(out, ", length {}", given.len()),
         }
     }
 }
