@@ -1,7 +1,7 @@
 -- Append at journal i by its cases: the early refusals, and what stands when none of them holds. Assumes nothing.
 use Prim.Native.Nat.{ℕ, ◌≤◌, ◌<◌}
 use mathlib.Core.Path.{◌≡◌, refl, sym, ◌∙◌}
-use mathlib.Core.Bool.{true, not}
+use mathlib.Core.Bool.{true, false, not}
 use mathlib.Core.List.{List, [], ◌∷◌, ◌++◌}
 use lib.ListN.{length}
 use lib.Dec.{leb, ltb, eqb}
@@ -14,7 +14,7 @@ use Rattle.words.proofs.Test.{test}
 use Rattle.records.specs.JournalBook.{journal_form, journals_of}
 use Rattle.records.specs.Sound.{right_sizes, sound, BooksOf}
 use Rattle.records.proofs.Sound.{sound_books}
-use Rattle.books.specs.Numbers.{Refusal, first}
+use Rattle.books.specs.Numbers.{Refusal, first, wrong_size}
 use Rattle.books.specs.Clear.{after}
 use Rattle.books.specs.Write.{rows_refusal, write_call}
 use Rattle.books.specs.Append.{early_refusals, append_refusals, append_at_call, append_call}
@@ -119,6 +119,11 @@ module _ (jb rb : List ℕ) (i s : ℕ) where
       not_early h = h (sym (first_early (early_refusals jb rb i s) (rows_refusal longer ∷ []) h) ∙ e)
 
 module _ (jb rb : List ℕ) (s : ℕ) where
+  -- at the last journal, wrong sizes come before it is asked which that is
+  pub append_size : right_sizes jb rb ≡ false → after wrong_size jb rb ≡ append_call jb rb s
+  unfolding append_call append_at_call
+  append_size f = rw f
+
   -- append is that at the last journal
   pub append_last : (i : ℕ) → i ≡ last_of (journals_of jb) → append_at_call jb rb i s ≡ append_call jb rb s
   unfolding append_call
