@@ -12,7 +12,7 @@ ghost use Rattle.books.specs.Open.{open_call};
 ghost use Rattle.books.specs.Append.{append_call};
 ghost use Rattle.books.specs.Rebuild.{rebuild_call};
 
-use appending::appended;
+use appending::append_at;
 use books::{Refused, sized};
 use checking::size::right_sizes;
 use journal::JournalBook;
@@ -32,7 +32,7 @@ pub fn clear(journals: &mut [u8], rows: &mut [u8]) -> Result<(), Refused>
     Ok(())
 }
 
-// Kept: `open` and `append` are alike but for the book that is made: a function for what they share would be as long as either.
+// Kept: `open` and `append_at` are alike but for the book that is made: a function for what they share would be as long as either.
 
 // Opens the next journal, an empty one, behind the others.
 pub fn open(journals: &mut [u8], rows: &mut [u8]) -> Result<(), Refused>
@@ -43,11 +43,14 @@ pub fn open(journals: &mut [u8], rows: &mut [u8]) -> Result<(), Refused>
 }
 
 // Appends a step to the journal opened last.
+#[tactic(auto, using(books::proofs::AppendCases::append_size, books::proofs::AppendCases::append_last))]
 pub fn append(journals: &mut [u8], rows: &mut [u8], step: u8) -> Result<(), Refused>
     ensures { after (number_in result) journals.new rows.new ≡ append_call journals.old rows.old step }
 {
-    let longer = appended(journals, rows, step)?;
-    write_books(&JournalBook { bytes: &longer }, journals, rows)
+    let (book, _) = right_sizes(journals, rows)?;
+    // With no journal open, journal 0 is named, which isn't open.
+    let last = journal::last_journal(book).unwrap_or(0);
+    append_at(journals, rows, last, step)
 }
 
 // Draws the row book anew from the journal book alone, whatever the row book held.
