@@ -3,7 +3,6 @@
 use Prim.Native.Nat.{ℕ, ◌/◌, ◌%◌, ◌≤◌, ◌<◌}
 use native.Mathlib.Omega.{arith}
 use mathlib.Core.Path.{◌≡◌, refl}
-use mathlib.Core.Bool.{Bool, true, false}
 use mathlib.Core.List.{List}
 use Rattle.books.specs.TableCount.{table_count_refusals, table_count_call, Counted}
 use Rattle.books.specs.JournalCount.{journal_count_refusals, journal_count_call}
@@ -16,6 +15,7 @@ use Rattle.books.proofs.TableCountCases.{table_few}
 use Rattle.list.specs.ListCall.{Asked, list_refusals, list_call, Listed}
 use Rattle.selquorin.specs.PackedList.{packed_list}
 use Rattle.packing.specs.Packed.{flagged, packed_count, packed_check, packed_journals, packed_rows}
+use Rattle.packing.proofs.Flags.{flag_small}
 use Rattle.selquorin.proofs.Bounds.{Small, small, call_few}
 
 -- a number fits into one byte
@@ -60,13 +60,8 @@ abbrev pub ListUnpacked : Listed → Type 0
 ListUnpacked l =
     (packed_list l % 256 ≡ l.number) × (packed_list l / 256 % 256 ≡ flagged l.more) × (packed_list l / 65536 ≡ l.written)
 
--- a yes or no in a number is at most 1
-flag_small : (b : Bool) → flagged b ≤ 1
-flag_small true = omega arith
-flag_small false = omega arith
-
 listed_unpacked : (l : Listed) → Byte l.number → l.written ≤ 4096 → ListUnpacked l
-listed_unpacked l n h = let f = flag_small l.more in (omega (arith, f), omega (arith, f), omega (arith, f))
+listed_unpacked l n h = let f = flag_small l.more refl in (omega (arith, f), omega (arith, f), omega (arith, f))
 
 list_number : (a : Asked) → Byte (list_call a).answer.number
 unfolding list_call
