@@ -2,6 +2,7 @@
 #![tactic(auto)]
 
 ghost use Rattle.std.specs.Prelude.{◌≡◌, ◌≤◌, ◌<◌, IfOk};
+ghost use Rattle.words.specs.Limits.{most_journals};
 ghost use Rattle.records.specs.Sizes.{most_rows, row_record_size};
 ghost use Rattle.books.specs.Answers.{counted_in, checked_in, open_journals_in, live_rows_in};
 ghost use Rattle.packing.specs.Packed.{packed_count, packed_check, packed_page, packed_journals, packed_rows, most_words};
@@ -40,6 +41,22 @@ pub fn packed_page(number: u8, more: bool, written: usize) -> u64
     ensures { result ≡ packed_page number more written }
 {
     u64::from(number) + 256 * u64::from(more) + 65536 * (written as u64)
+}
+
+// How many journals are open: the number, or the journals 2^8 times.
+pub fn packed_journals(opened: Result<usize, Refused>) -> u32
+    requires { (open_journals_in opened).journals ≤ most_journals }
+    ensures { result ≡ packed_journals (open_journals_in opened) }
+{
+    packed_amount(opened)
+}
+
+// How many live rows there are: the number, or the rows 2^8 times.
+pub fn packed_rows(live: Result<usize, Refused>) -> u32
+    requires { (live_rows_in live).rows ≤ most_rows }
+    ensures { result ≡ packed_rows (live_rows_in live) }
+{
+    packed_amount(live)
 }
 
 // How many journals are open, or how many live rows there are: the number, or that many 2^8 times.

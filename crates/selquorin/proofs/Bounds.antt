@@ -8,15 +8,11 @@ use mathlib.Core.List.{List}
 use lib.ListN.{length, length-take}
 use lib.Dec.{eqb, ltb}
 use borrow.Author.Tests.{ltb-false}
-use Rattle.std.specs.Prelude.{Result, Ok, Err, IfOk}
-use Rattle.records.specs.Sizes.{most_rows}
 use Rattle.records.specs.Sound.{right_sizes}
-use Rattle.books.specs.Answers.{open_journals_in, live_rows_in}
 use Rattle.books.specs.Numbers.{first}
 use Rattle.books.specs.Check.{check_call, Verdict, wrong_sizes, book_one, too_many, book_two, all_right, Checked}
 use Rattle.books.specs.OpenJournals.{open_journals_call, OpenJournals}
 use Rattle.books.specs.LiveRows.{live_rows_call, LiveRows}
-use Rattle.books.specs.declared.refused.Refused.{Refused}
 use Rattle.books.proofs.BookSizes.{both_sized}
 use Rattle.books.proofs.Checks.{check_verdict}
 use Rattle.books.proofs.LiveRowsCases.{live_few}
@@ -44,15 +40,6 @@ few_journals jb e = subst (λ (o : OpenJournals). o.journals ≤ 16) (sym e) (op
 
 pub few_rows : (jb rb : List ℕ) {l : LiveRows} → l ≡ live_rows_call jb rb → l.rows ≤ 1000
 few_rows jb rb e = subst (λ (l : LiveRows). l.rows ≤ 1000) (sym e) (live_few jb rb)
-
--- in the code's answers
-pub few_opened : (jb : List ℕ) (told : Result ℕ Refused) → open_journals_in told ≡ open_journals_call jb → IfOk told (λ (k : ℕ). k ≤ most_rows)
-few_opened jb (Ok k) e = omega (arith, few_journals jb e)
-few_opened jb (Err n) e = tt
-
-pub few_live : (jb rb : List ℕ) (told : Result ℕ Refused) → live_rows_in told ≡ live_rows_call jb rb → IfOk told (λ (r : ℕ). r ≤ most_rows)
-few_live jb rb (Ok r) e = few_rows jb rb e
-few_live jb rb (Err n) e = tt
 
 -- an output that isn't refused has at most 65,536 bytes
 output_small : (a : Asked) → first (list_refusals a) ≡ 0 → length a.out ≤ 65536

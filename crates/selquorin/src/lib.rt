@@ -17,7 +17,7 @@ ghost use Rattle.packing.specs.Packed.{packed_count, packed_check, packed_journa
 ghost use Rattle.selquorin.specs.PackedList.{packed_list};
 
 use books::number_in;
-use packing::{packed_amount, packed_check, packed_count, packed_page};
+use packing::{packed_check, packed_count, packed_journals, packed_page, packed_rows};
 
 // Clears both books.
 pub fn selquorin_clear(journals: &mut [u8], rows: &mut [u8]) -> u8
@@ -97,17 +97,17 @@ pub fn selquorin_row_record_number(rows: &[u8], row: usize) -> u8
 }
 
 // How many journals are open.
-#[tactic(auto, using(crate::proofs::Bounds::few_opened))]
+#[tactic(auto, using(crate::proofs::Bounds::few_journals))]
 pub fn selquorin_journals(journals: &[u8]) -> u32
     ensures { result ≡ packed_journals (open_journals_call journals.now) }
 {
-    packed_amount(reading::open_journals(journals))
+    packed_journals(reading::open_journals(journals))
 }
 
 // How many live rows sound books have.
-#[tactic(auto, using(crate::proofs::Bounds::few_live))]
+#[tactic(auto, using(crate::proofs::Bounds::few_rows))]
 pub fn selquorin_rows(journals: &[u8], rows: &[u8]) -> u32
     ensures { result ≡ packed_rows (live_rows_call journals.now rows.now) }
 {
-    packed_amount(checking::live_rows(journals, rows))
+    packed_rows(checking::live_rows(journals, rows))
 }
