@@ -1,3 +1,4 @@
 pub mod Order
 pub mod Compared
 pub mod Ranks
+pub mod Moved

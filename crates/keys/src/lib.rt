@@ -1,7 +1,7 @@
 // The keys of the live states, of sixteen bytes each: ascending, none twice. A key's place is found by halving.
 #![tactic(auto)]
 
-ghost use Rattle.std.specs.Prelude.{◌≡◌, ◌∷◌, ◌++◌, ◌+◌, ◌≤◌, ◌<◌, [], length, take, drop, slice_index_or};
+ghost use Rattle.std.specs.Prelude.{◌≡◌, ◌∷◌, ◌++◌, ◌+◌, ◌≤◌, ◌<◌, List, ℕ, [], length, take, drop, slice_index_or};
 ghost use Rattle.records.specs.Sizes.{most_rows};
 ghost use Rattle.words.specs.Order.{before};
 ghost use Rattle.words.specs.Picture.{insert};
@@ -30,6 +30,17 @@ fn comes_before(a: &Key, b: &Key) -> bool
         }
     }
     false
+}
+
+// Moves the last key down to place p, past those from there on.
+// Kept: swapped down, since std's insert and its rotation call memmove, and the archive for C wants no name more from outside than it did.
+fn last_to(keys: &mut [Key], p: usize)
+    requires { p < length keys.old }
+    ensures { (front : List (List ℕ)) (last : List ℕ) → keys.old ≡ front ++ last ∷ [] → keys.new ≡ take p front ++ last ∷ drop p front }
+{
+    for i in (p + 1..keys.len()).rev() {
+        keys.swap(i - 1, i);
+    }
 }
 
 // At most one key more than there are rows, in their order.
@@ -97,7 +108,8 @@ impl Keys {
         requires { (p ≤ length self.old) × (length self.old ≤ most_rows) × AreKeys (take p self.old ++ key ∷ drop p self.old) }
         ensures { self.new ≡ take p self.old ++ key ∷ drop p self.old }
     {
-        self.held.insert(p, key);
+        self.held.push(key);
+        last_to(self.held.as_mut_slice(), p);
     }
 
     // Puts a key among the others, in order, unless it is there.
