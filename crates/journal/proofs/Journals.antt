@@ -2,6 +2,7 @@
 -- that none is longer than its record. Assumes nothing.
 use Rattle.std.proofs.Common.{◌≡◌, ℕ, zero, suc, ◌+◌, ◌-◌, ◌≤◌, ◌<◌, true, cond, List, [], ◌∷◌, length, take, drop, get_or, length-take, add-one, refl, sym, ap, ◌∙◌, arith}
 use Rattle.std.proofs.Math.Seq.{drop-cons}
+use Rattle.std.proofs.Math.ListN.{drop_of_length-le}
 use Rattle.words.specs.Words.{IsJournal, EachJournal, is_in, count}
 use Rattle.words.proofs.Test.{test}
 use Rattle.records.specs.StepBytes.{steps_of}
@@ -57,3 +58,6 @@ module _ (b : List ℕ) (t : journal_form b ≡ true) (i : ℕ) (h : i < length 
 pub count_on : (js : List (List ℕ)) (w : List ℕ) (i : ℕ) → i < length js
     → count (drop i js) w ≡ cond (is_in w (get_or js i [])) 1 0 + count (drop (i + 1) js) w
 count_on js w i h = rw (add-one, drop-cons js i []) (test (is_in w (get_or js i [])) (λ t. rw t (omega arith)) (λ f. rw f (omega arith)))
+
+pub count_end : (js : List (List ℕ)) (w : List ℕ) (i : ℕ) → length js ≤ i → count (drop i js) w ≡ 0
+count_end js w i h = rw (drop_of_length-le js h)

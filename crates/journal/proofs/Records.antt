@@ -1,13 +1,15 @@
 -- The records of a book: they are its parts of 256 bytes, the first wrong of them is the book's, and those that are open hold its journals. By
 -- induction over the records. Assumes nothing.
-use Rattle.std.proofs.Common.{◌≡◌, ◌≢◌, ℕ, zero, suc, ◌+◌, ◌*◌, ◌/◌, ◌≤◌, ◌<◌, Bool, true, false, List, [], ◌∷◌, length, take, drop, get_or, length-take, length-drop, refl, ne_eqb, eq-eqb, add-one, Option, Some, None, MatchOption, unwrap_or, ap, arith}
-use Rattle.std.proofs.Math.Seq.{drop-cons}
+use Rattle.std.proofs.Common.{◌≡◌, ◌≢◌, ℕ, zero, suc, ◌+◌, ◌*◌, ◌/◌, ◌≤◌, ◌<◌, Bool, true, false, eqb, List, [], ◌∷◌, ◌++◌, append_assoc, length, take, drop, get_or, length-drop, refl, ne_eqb, eq-eqb, add-one, Option, Some, None, MatchOption, unwrap_or, ap, ◌∙◌, ⊎_elim, arith}
+use mathlib.Core.List.Memᴰ
+use mathlib.Core.List.{Memᴰ}
+use lib.Seq.{take-add, drop-drop, take_at, drop_at, length-take-le, get_or-take, get_or-drop, drop-cons}
 use Rattle.std.proofs.Math.ListN.{drop_of_length-le}
 use Rattle.std.specs.Simd.{first_chunks}
 use Rattle.words.proofs.Test.{test}
 use Rattle.records.specs.Bytes.{records}
 use Rattle.records.specs.StepBytes.{steps_of}
-use Rattle.records.specs.JournalBook.{is_open, wrong_record, first_wrong, first_wrong_record, journal_form, open_ones, journals_of}
+use Rattle.records.specs.JournalBook.{record_at, is_open, wrong_record, first_wrong, first_wrong_record, journal_form, open_ones, journals_of}
 use Rattle.journal.specs.Records.{records_of}
 
 -- the parts of m bytes
@@ -19,24 +21,55 @@ pub parts : (b : List ℕ) → length b ≡ 4096 → first_chunks 256 (length b 
 unfolding records_of
 parts b l = rw l (chunks 256 16 b)
 
--- their number
-number : (m n : ℕ) (b : List ℕ) → length (records m n b) ≡ n
-number m zero b = refl
-number m (suc n) b = ap suc (number m n (drop m b))
+-- records of one width: how many there are, where each begins, and that what stands behind them doesn't count
+module _ (m : ℕ) where
+  pub length_records : (n : ℕ) (t : List ℕ) → length (records m n t) ≡ n
+  length_records zero t = refl
+  length_records (suc n) t = ap suc (length_records n (drop m t))
 
+  -- each has the width
+  pub records_wide : (n : ℕ) (t : List ℕ) → m * n ≤ length t → (a : List ℕ) → Memᴰ a (records m n t) → length a ≡ m
+  records_wide zero t h a i = absurd (Memᴰ.not-nil i)
+  records_wide (suc n) t h a i =
+      ⊎_elim (λ (e : a ≡ take m t). rw e (length-take-le m t (omega arith)))
+      (λ (j : Memᴰ a (records m n (drop m t))). records_wide n (drop m t) (omega (arith, length-drop m t)) a j)
+      (Memᴰ.cases_cons i)
+
+  -- record i
+  pub records_at : (n : ℕ) (t : List ℕ) (i : ℕ) → i < n → get_or (records m n t) i [] ≡ take m (drop (m * i) t)
+  records_at zero t i h = absurd (omega arith)
+  records_at (suc n) t zero h = let e : m * zero ≡ 0 = omega arith in rw e
+  records_at (suc n) t (suc i) h =
+      let e : m * suc i ≡ m + m * i = omega arith in
+      records_at n (drop m t) i (omega arith) ∙ rw (drop-drop, ← e)
+
+  -- records behind one more
+  pub records_cons : (n : ℕ) (x t : List ℕ) → length x ≡ m → records m (suc n) (x ++ t) ≡ x ∷ records m n t
+  records_cons n x t h = rw (take_at x t m h, drop_at x t m h)
+
+  -- only the bytes of the records count
+  pub records_front : (n : ℕ) (t r : List ℕ) → m * n ≤ length t → records m n (take (m * n) t ++ r) ≡ records m n t
+  records_front zero t r h = refl
+  records_front (suc n) t r h =
+      let e : m * suc n ≡ m + m * n = omega arith in
+      rw (e, take-add m (m * n) t, append_assoc)
+      (records_cons n (take m t) (take (m * n) (drop m t) ++ r) (length-take-le m t (omega arith))
+      ∙ ap (λ (l : List (List ℕ)). take m t ∷ l) (records_front n (drop m t) r (omega (arith, length-drop m t))))
+
+-- those of a book
 pub sixteen : (b : List ℕ) → length (records_of b) ≡ 16
 unfolding records_of
-sixteen b = number 256 16 b
-
--- each has 256 bytes
-width : (n : ℕ) (b : List ℕ) (i : ℕ) → length b ≡ 256 * n → i < n → length (get_or (records 256 n b) i []) ≡ 256
-width zero b i l h = absurd (omega arith)
-width (suc n) b zero l h = omega (arith, length-take 256 b)
-width (suc n) b (suc i) l h = width n (drop 256 b) i (omega (arith, length-drop 256 b)) (omega arith)
+sixteen b = length_records 256 16 b
 
 pub wide : (b : List ℕ) (i : ℕ) → length b ≡ 4096 → i < 16 → length (get_or (records_of b) i []) ≡ 256
 unfolding records_of
-wide b i l h = width 16 b i l h
+wide b i l h = ap length (records_at 256 16 b i h) ∙ length-take-le 256 (drop (256 * i) b) (omega (arith, length-drop (256 * i) b))
+
+-- whether record i is open, read off the book
+pub open_byte : (b : List ℕ) (i : ℕ) → is_open (record_at b i) ≡ eqb (get_or b (256 * i) 0) 1
+open_byte b i =
+    let e : 256 * i + 0 ≡ 256 * i = omega arith in
+    ap (λ (x : ℕ). eqb x 1) (get_or-take 256 (drop (256 * i) b) 0 0 (omega arith) ∙ get_or-drop (256 * i) b 0 0 ∙ ap (λ (k : ℕ). get_or b k 0) e)
 
 -- the first wrong one
 pub wrong_of : (b : List ℕ) → first_wrong_record b ≡ first_wrong true (records_of b)
