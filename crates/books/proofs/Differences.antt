@@ -42,6 +42,6 @@ module _ (a b : List ℕ) where
       let y : differ a b % 64 ≡ byte = omega arith in
       rw (same_not a b (omega arith)) (ap₂ (λ (p q : ℕ). checked 2 2 p q) x y)
 
-  pub compared_same : length a ≡ 64000 → length b ≡ 64000 → differ a b ≡ 64000 → compared a b ≡ checked 0 0 0 0
+  pub compared_same : length a ≡ 64000 → length b ≡ 64000 → 64000 ≤ differ a b → compared a b ≡ checked 0 0 0 0
   unfolding compared
   compared_same l m e = rw (same_end a b (omega arith) (omega arith))

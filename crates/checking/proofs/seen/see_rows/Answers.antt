@@ -1,6 +1,7 @@
 -- `checking::seen::see_rows` meets its contract: where the picture fits, the check compares the row book with what was drawn, and the walk over both has
 -- found where they differ, or that they don't. Assumes nothing.
 use mathlib.Core.Path.{◌≡◌, sym, ap, ◌∙◌}
+use native.Mathlib.Omega.{arith}
 use borrow.Author.Rules.{rules}
 use Rattle.records.specs.JournalBook.{journals_of}
 use Rattle.std.proofs.Common.{Some}
@@ -26,4 +27,4 @@ returns-in-None-clause-says c =
     let rb = c.args.rows.now in
     let e : Some c.in_ok-live.live ≡ rows_found js = search rules in
     let f = found_few js c.in_ok-live.live e in
-    sym (compared_same rb c.draw.new.rows (search rules) c.draw.array_long c.in-None.ensures) ∙ ap (compared rb) (c.draw.ensures.rows_after ∙ drawn_few js _ f.1) ∙ sym (rows_compared js rb f.1)
+    sym (compared_same rb c.draw.new.rows (search rules) c.draw.array_long (omega (arith, c.in-None.ensures))) ∙ ap (compared rb) (c.draw.ensures.rows_after ∙ drawn_few js _ f.1) ∙ sym (rows_compared js rb f.1)
