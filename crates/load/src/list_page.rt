@@ -18,6 +18,8 @@ pub(crate) const PAGE: usize = PAGE_WORDS * WORD_RECORD;
 
 const TEXT: usize = PAGE_WORDS * 96;
 
+pub(crate) type Text = ArrayVec<u8, TEXT>;
+
 // The line of the word in a word record, with the count that the table answers.
 #[tactic(auto, unfolding(next_word::specs::Next::table_of))]
 fn record_line(rows: &[u8], word_record: &[u8; WORD_RECORD]) -> Line
@@ -30,17 +32,16 @@ fn record_line(rows: &[u8], word_record: &[u8; WORD_RECORD]) -> Line
     text::word_line(count, word)
 }
 
-// The text of the first words of a page, a line each.
-pub(crate) fn page_text(rows: &[u8], page: &[u8; PAGE], written: usize) -> ArrayVec<u8, TEXT>
+// Makes the text that of the first words of a page, a line each. It is lent, since a call that hands 96 KB back needs them twice on the stack.
+pub(crate) fn page_text(rows: &[u8], page: &[u8; PAGE], written: usize, text: &mut Text)
     requires { written ≤ 1024 }
-    ensures lines { result.items ≡ page_lines rows.now written page.now }
-    ensures room { length result.items ≤ line_size * written }
+    ensures lines { text.new.items ≡ page_lines rows.now written page.now }
+    ensures room { length text.new.items ≤ line_size * written }
 {
-    let mut text = ArrayVec::new();
+    text.clear();
     let (word_records, _) = page.as_chunks::<WORD_RECORD>();
     for word_record in &word_records[..written] {
         let line = record_line(rows, word_record);
         text.try_extend_from_slice(line.as_bytes()).unwrap();
     }
-    text
 }

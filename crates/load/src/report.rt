@@ -8,7 +8,7 @@ ghost use Rattle.records.specs.JournalBook.{journals_of};
 ghost use Rattle.records.specs.Sizes.{word_record_size};
 ghost use Rattle.list.specs.ListCall.{asked, listed_in, wrote, list_call};
 
-use crate::list_page::{PAGE, PAGE_WORDS, page_text};
+use crate::list_page::{PAGE, PAGE_WORDS, Text, page_text};
 use ask::Ask;
 use books::Refused;
 use page::Page;
@@ -56,6 +56,7 @@ fn print_words(rt: &impl Print, journals: &[u8], rows: &[u8], ask: Ask) -> io::R
         words ≡ length (list_of (count (journals_of journals.now)) ask.quorum ask.limit))) }
 {
     let mut page = [0u8; PAGE];
+    let mut text = Text::new();
     let mut last: Option<[u8; WORD_RECORD]> = None;
     let mut words = 0;
     for _ in 0..TURNS {
@@ -63,7 +64,8 @@ fn print_words(rt: &impl Print, journals: &[u8], rows: &[u8], ask: Ask) -> io::R
             return Ok(None);
         };
         let written = written.min(PAGE_WORDS);
-        rt.write_all(page_text(rows, &page, written).as_slice())?;
+        page_text(rows, &page, written, &mut text);
+        rt.write_all(text.as_slice())?;
         words += written;
         if !more {
             return Ok(Some(words));

@@ -10,6 +10,7 @@ use itoa::{Buffer, Integer};
 const LINE: usize = 96;
 
 // A line of at most 96 bytes. Those behind its text are 0.
+// Kept: an array with a number beside it, both open, since what is promised of a line is an equation for every byte of it.
 #[derive(Clone, Copy)]
 pub struct Line {
     pub bytes: [u8; LINE],

@@ -15,7 +15,7 @@ use Rattle.load.proofs.list_page.page_text.Goals as goal
 
 pub loop-word_record-init : goal.loop-word_record-init
 unfolding page_lines
-loop-word_record-init c = (grind arith, c.new-text.ensures)
+loop-word_record-init c = (grind arith, c.clear.ensures)
 
 pub loop-word_record-preserved : goal.loop-word_record-preserved
 loop-word_record-preserved c =
