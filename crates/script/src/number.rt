@@ -1,13 +1,11 @@
 // The numbers of a line, in decimal: `7`, or `200*7` for two hundred times 7.
 
-use arrayvec::ArrayVec;
-use std::iter::repeat_n;
-
 // The most numbers of a line.
 pub const MOST: usize = 8192;
 
-// The numbers of a line, of any size or as bytes.
-pub type Numbers<T> = ArrayVec<T, MOST>;
+// Room for the numbers of a line, of any size or as bytes. Those that there are stand at its front.
+// Kept: arrays, and no `ArrayVec`, which takes one number after the other: a script of long repeats takes three times as long with it.
+pub type Numbers<T> = [T; MOST];
 
 // The value of a digit.
 fn digit(byte: u8) -> Option<usize> {
@@ -33,16 +31,20 @@ fn repeat(text: &[u8]) -> Option<(usize, usize)> {
     }
 }
 
-// Puts the number of a text, or the repeated number, behind those before it. None for any other text, or too many numbers.
-pub fn read(text: &[u8], numbers: &mut Numbers<usize>) -> Option<()> {
+// Puts the number of a text, or the repeated number, behind the first n numbers. Answers how many there are then; None for any other
+// text, or too many numbers.
+pub fn read(text: &[u8], numbers: &mut Numbers<usize>, n: usize) -> Option<usize> {
     let (times, number) = repeat(text)?;
-    numbers.extend(repeat_n(number, times)).ok()
+    let end = n.checked_add(times)?;
+    numbers.get_mut(n..end)?.fill(number);
+    Some(end)
 }
 
-// Puts numbers that are bytes behind those before them. None where one is too large for a byte, or they are too many.
-pub fn to_bytes(numbers: &[usize], bytes: &mut Numbers<u8>) -> Option<()> {
-    for &number in numbers {
-        bytes.try_push(u8::try_from(number).ok()?).ok()?;
+// Numbers as bytes, put at the front of the room for them. None where one is too large for a byte, or they are too many.
+pub fn to_bytes<'a>(numbers: &[usize], room: &'a mut Numbers<u8>) -> Option<&'a [u8]> {
+    let bytes = room.get_mut(..numbers.len())?;
+    for (byte, &number) in bytes.iter_mut().zip(numbers) {
+        *byte = u8::try_from(number).ok()?;
     }
-    Some(())
+    Some(bytes)
 }

@@ -121,22 +121,19 @@ impl<'a> Command<'a> {
         }
     }
 
-    // The command of a line, whose numbers and bytes are put where there is room for them, in the place of those of the line
-    // before. None if the line is no command.
+    // The command of a line, whose numbers and bytes are put where there is room for them. None if the line is no command.
     pub(crate) fn read(
         line: &[u8],
         numbers: &mut Numbers<usize>,
         bytes: &'a mut Numbers<u8>,
     ) -> Option<Self> {
-        numbers.clear();
-        bytes.clear();
         let mut words = line.split(|byte| *byte == b' ');
         let name = words.next()?;
+        let mut n = 0;
         for word in words {
-            number::read(word, numbers)?;
+            n = number::read(word, numbers, n)?;
         }
-        let (asked, rest) = numbers.as_slice().split_at_checked(heads(name))?;
-        number::to_bytes(rest, bytes)?;
-        Command::of(name, asked, bytes.as_slice())
+        let (asked, rest) = numbers.get(..n)?.split_at_checked(heads(name))?;
+        Command::of(name, asked, number::to_bytes(rest, bytes)?)
     }
 }

@@ -14,7 +14,7 @@ mod stop;
 
 use command::Command;
 use rooms::Rooms;
-use script::number::Numbers;
+use script::number::{MOST, Numbers};
 use std::io;
 use std::io::{Read, Write};
 use stop::Stop;
@@ -47,8 +47,8 @@ fn run_line<W: Write>(
 // Carries out the lines of a script, up to the first that is none. The room for a line's numbers, 72 KiB, is made once and not for
 // each line.
 fn run_lines<W: Write>(out: &mut W, script: &[u8], rooms: &mut Rooms) -> Result<(), Stop> {
-    let mut numbers = Numbers::new();
-    let mut bytes = Numbers::new();
+    let mut numbers = [0; MOST];
+    let mut bytes = [0; MOST];
     for line in script.split_inclusive(|byte| *byte == b'\n') {
         let line = line.strip_suffix(b"\n").unwrap_or(line);
         run_line(out, line, &mut numbers, &mut bytes, rooms)?;
