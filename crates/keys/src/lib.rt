@@ -32,15 +32,17 @@ fn comes_before(a: &Key, b: &Key) -> bool
     false
 }
 
-// Moves the last key down to place p, past those from there on.
-// Kept: swapped down, since std's insert and its rotation call memmove, and the archive for C wants no name more from outside than it did.
+// Moves the last key down to place p, and those from there on a place further.
+// Kept: by a loop, since std's insert and its rotation call memmove, and the archive for C wants no name more from outside than it did.
 fn last_to(keys: &mut [Key], p: usize)
     requires { p < length keys.old }
     ensures { (front : List (List ℕ)) (last : List ℕ) → keys.old ≡ front ++ last ∷ [] → keys.new ≡ take p front ++ last ∷ drop p front }
 {
+    let last = keys[keys.len() - 1];
     for i in (p + 1..keys.len()).rev() {
-        keys.swap(i - 1, i);
+        keys[i] = keys[i - 1];
     }
+    keys[p] = last;
 }
 
 // At most one key more than there are rows, in their order.
